@@ -1,0 +1,437 @@
+// The instructions of the subset, and their halfwords.
+ghost use mathlib.Core.Path.{_≡_};
+ghost use Prim.Native.Nat.{_+_, _*_, _≤_, _<_};
+ghost use Rattle.thumb.specs.Code as spec;
+ghost use Rattle.thumb.specs.Code.{form, encodeOf, decodeOf, find, table};
+
+pub enum Instr {
+    Shli(u8, u8, u8),
+    Shri(u8, u8, u8),
+    Ashri(u8, u8, u8),
+    Addr(u8, u8, u8),
+    Subr(u8, u8, u8),
+    Movi(u8, u8),
+    Addi(u8, u8),
+    Subi(u8, u8),
+    Ldrpci(u8, u8),
+    Strspi(u8, u8),
+    Ldrspi(u8, u8),
+    Addpci(u8, u8),
+    Addspi(u8, u8),
+    Andr(u8, u8),
+    Xorr(u8, u8),
+    Shl(u8, u8),
+    Shr(u8, u8),
+    Negr(u8, u8),
+    Orr(u8, u8),
+    Mul(u8, u8),
+    Mvnr(u8, u8),
+    Str(u8, u8, u8),
+    Ldr(u8, u8, u8),
+    Stri(u8, u8, u8),
+    Ldri(u8, u8, u8),
+    Incsp(u8),
+    Decsp(u8),
+    Svc(u8),
+    Beq(u32),
+    Bne(u32),
+    Bge(u32),
+    Blt(u32),
+    Bu(u32),
+    Bl(u32),
+}
+
+pub struct Encoded {
+    pub status: u32,
+    pub count: u32,
+    pub first: u16,
+    pub second: u16,
+}
+
+pub enum Decoded {
+    Known(Instr),
+    Unknown,
+}
+
+// A field out of range.
+fn refused() -> Encoded
+    ensures { λ r. ⌜ r ≡ spec.refused ⌝ }
+{
+    Encoded {
+        status: 35,
+        count: 0,
+        first: 0,
+        second: 0,
+    }
+}
+
+// The halfword of a form with these fields.
+fn put(base: u32, high: u32, middle: u32, low: u32, a: u32, b: u32, c: u32) -> Encoded
+    requires { ⌜ base + high * middle * low ≤ 65536 ⌝ }
+    ensures { λ r. ⌜ r ≡ spec.put (form base high middle low) a b c ⌝ }
+{
+    if a >= high {
+        return refused();
+    }
+    if b >= middle {
+        return refused();
+    }
+    if c >= low {
+        return refused();
+    }
+    Encoded {
+        status: 0,
+        count: 1,
+        first: (base + ((a * middle + b) * low + c)) as u16,
+        second: 0,
+    }
+}
+
+// +64a +8b +c.
+fn three(base: u32, high: u32, a: u8, b: u8, c: u8) -> Encoded
+    requires { ⌜ base + high * 8 * 8 ≤ 65536 ⌝ }
+    ensures { λ r. ⌜ r ≡ spec.put (form base high 8 8) a b c ⌝ }
+{
+    put(base, high, 8, 8, a as u32, b as u32, c as u32)
+}
+
+// The same with a shift's count, 1 to 32.
+fn shift(base: u32, n: u8, b: u8, c: u8) -> Encoded
+    requires { ⌜ base + 32 * 8 * 8 ≤ 65536 ⌝ }
+    ensures { λ r. ⌜ r ≡ spec.put (form base 32 8 8) (spec.swap32 n) b c ⌝ }
+{
+    three(base, 32, swap32(n), b, c)
+}
+
+// +256b +c, or +8b +c.
+fn pair(base: u32, low: u32, b: u8, c: u8) -> Encoded
+    requires { ⌜ base + 1 * 8 * low ≤ 65536 ⌝ }
+    ensures { λ r. ⌜ r ≡ spec.put (form base 1 8 low) 0 b c ⌝ }
+{
+    put(base, 1, 8, low, 0, b as u32, c as u32)
+}
+
+// +c.
+fn single(base: u32, low: u32, c: u8) -> Encoded
+    requires { ⌜ base + 1 * 1 * low ≤ 65536 ⌝ }
+    ensures { λ r. ⌜ r ≡ spec.put (form base 1 1 low) 0 0 c ⌝ }
+{
+    put(base, 1, 1, low, 0, 0, c as u32)
+}
+
+// A distance.
+fn branch(base: u32, half: u32, k: u32) -> Encoded
+    requires { ⌜ (0 < half) × (base + 1 * 1 * (2 * half) ≤ 65536) ⌝ }
+    ensures { λ r. ⌜ r ≡ spec.put (form base 1 1 (2 * half)) 0 0 (spec.narrow half k) ⌝ }
+{
+    put(base, 1, 1, 2 * half, 0, 0, narrow(half, k))
+}
+
+// A shift's count and its field: 32 is stored as 0, and 0 is out of range.
+fn swap32(n: u8) -> u8
+    ensures { λ r. ⌜ r ≡ spec.swap32 n ⌝ }
+{
+    if n == 0 {
+        return 32;
+    }
+    if n == 32 {
+        return 0;
+    }
+    n
+}
+
+// A word from -half to half - 1 as a field below 2 half; any other becomes 2 half.
+fn narrow(half: u32, d: u32) -> u32
+    requires { ⌜ (0 < half) × (half ≤ 2097152) ⌝ }
+    ensures { λ r. ⌜ r ≡ spec.narrow half d ⌝ }
+{
+    if d < half {
+        return d;
+    }
+    if d < 0xFFFF_FFFF - half + 1 {
+        return 2 * half;
+    }
+    d - (0xFFFF_FFFF - 2 * half + 1)
+}
+
+// BL, two halfwords.
+fn long(k: u32) -> Encoded
+    ensures { λ r. ⌜ r ≡ spec.put-long (spec.narrow 2097152 k) ⌝ }
+{
+    let f = narrow(2097152, k);
+    if f >= 4194304 {
+        return refused();
+    }
+    Encoded {
+        status: 0,
+        count: 2,
+        first: (0xF000 + f / 2048) as u16,
+        second: (0xF800 + f % 2048) as u16,
+    }
+}
+
+// The halfwords of an instruction; 35 and none if a field is out of range.
+pub fn encode(i: Instr) -> Encoded
+    ensures { λ r. ⌜ r ≡ encodeOf i ⌝ }
+{
+    match i {
+        Instr::Shli(n, l, d) => three(0x0000, 32, n, l, d),
+        Instr::Shri(n, l, d) => shift(0x0800, n, l, d),
+        Instr::Ashri(n, l, d) => shift(0x1000, n, l, d),
+        Instr::Addr(r, l, d) => three(0x1800, 8, r, l, d),
+        Instr::Subr(r, l, d) => three(0x1A00, 8, r, l, d),
+        Instr::Movi(d, u) => pair(0x2000, 256, d, u),
+        Instr::Addi(d, u) => pair(0x3000, 256, d, u),
+        Instr::Subi(d, u) => pair(0x3800, 256, d, u),
+        Instr::Ldrpci(d, u) => pair(0x4800, 256, d, u),
+        Instr::Strspi(d, u) => pair(0x9000, 256, d, u),
+        Instr::Ldrspi(d, u) => pair(0x9800, 256, d, u),
+        Instr::Addpci(d, u) => pair(0xA000, 256, d, u),
+        Instr::Addspi(d, u) => pair(0xA800, 256, d, u),
+        Instr::Andr(r, d) => pair(0x4000, 8, r, d),
+        Instr::Xorr(r, d) => pair(0x4040, 8, r, d),
+        Instr::Shl(r, d) => pair(0x4080, 8, r, d),
+        Instr::Shr(r, d) => pair(0x40C0, 8, r, d),
+        Instr::Negr(r, d) => pair(0x4240, 8, r, d),
+        Instr::Orr(r, d) => pair(0x4300, 8, r, d),
+        Instr::Mul(r, d) => pair(0x4340, 8, r, d),
+        Instr::Mvnr(r, d) => pair(0x43C0, 8, r, d),
+        Instr::Str(i, b, d) => three(0x5000, 8, i, b, d),
+        Instr::Ldr(i, b, d) => three(0x5800, 8, i, b, d),
+        Instr::Stri(u, b, d) => three(0x6000, 32, u, b, d),
+        Instr::Ldri(u, b, d) => three(0x6800, 32, u, b, d),
+        Instr::Incsp(u) => single(0xB000, 128, u),
+        Instr::Decsp(u) => single(0xB080, 128, u),
+        Instr::Svc(u) => single(0xDF00, 256, u),
+        Instr::Beq(k) => branch(0xD000, 128, k),
+        Instr::Bne(k) => branch(0xD100, 128, k),
+        Instr::Bge(k) => branch(0xDA00, 128, k),
+        Instr::Blt(k) => branch(0xDB00, 128, k),
+        Instr::Bu(k) => branch(0xE000, 1024, k),
+        Instr::Bl(k) => long(k),
+    }
+}
+
+// A field below 2 half as a word from -half to half - 1.
+fn widen(half: u32, f: u32) -> u32
+    requires { ⌜ (half ≤ 2097152) × (f < 2 * half) ⌝ }
+    ensures { λ r. ⌜ r ≡ spec.widen half f ⌝ }
+{
+    if f < half {
+        return f;
+    }
+    f + (0xFFFF_FFFF - 2 * half + 1)
+}
+
+// The shifts, ADDR, SUBR, MOVI, ADDI, SUBI: 0000 to 3FFF.
+fn low(h: u16) -> Decoded
+    requires { ⌜ h < 0x4000 ⌝ }
+    ensures { λ r. ⌜ r ≡ find table h ⌝ }
+{
+    let d = (h % 8) as u8;
+    let l = (h / 8 % 8) as u8;
+    let n = (h / 64 % 32) as u8;
+    let r = (h / 64 % 8) as u8;
+    let u = (h % 256) as u8;
+    let e = (h / 256 % 8) as u8;
+    let m = swap32(n);
+    if h < 0x0800 {
+        return Decoded::Known(Instr::Shli(n, l, d));
+    }
+    if h < 0x1000 {
+        return Decoded::Known(Instr::Shri(m, l, d));
+    }
+    if h < 0x1800 {
+        return Decoded::Known(Instr::Ashri(m, l, d));
+    }
+    if h < 0x1A00 {
+        return Decoded::Known(Instr::Addr(r, l, d));
+    }
+    if h < 0x1C00 {
+        return Decoded::Known(Instr::Subr(r, l, d));
+    }
+    if h < 0x2000 {
+        return Decoded::Unknown;
+    }
+    if h < 0x2800 {
+        return Decoded::Known(Instr::Movi(e, u));
+    }
+    if h < 0x3000 {
+        return Decoded::Unknown;
+    }
+    if h < 0x3800 {
+        return Decoded::Known(Instr::Addi(e, u));
+    }
+    Decoded::Known(Instr::Subi(e, u))
+}
+
+// ANDR to MVNR: 4000 to 47FF.
+fn logical(h: u16) -> Decoded
+    requires { ⌜ (0x4000 ≤ h) × (h < 0x4800) ⌝ }
+    ensures { λ r. ⌜ r ≡ find table h ⌝ }
+{
+    let d = (h % 8) as u8;
+    let l = (h / 8 % 8) as u8;
+    if h < 0x4040 {
+        return Decoded::Known(Instr::Andr(l, d));
+    }
+    if h < 0x4080 {
+        return Decoded::Known(Instr::Xorr(l, d));
+    }
+    if h < 0x40C0 {
+        return Decoded::Known(Instr::Shl(l, d));
+    }
+    if h < 0x4100 {
+        return Decoded::Known(Instr::Shr(l, d));
+    }
+    if h < 0x4240 {
+        return Decoded::Unknown;
+    }
+    if h < 0x4280 {
+        return Decoded::Known(Instr::Negr(l, d));
+    }
+    if h < 0x4300 {
+        return Decoded::Unknown;
+    }
+    if h < 0x4340 {
+        return Decoded::Known(Instr::Orr(l, d));
+    }
+    if h < 0x4380 {
+        return Decoded::Known(Instr::Mul(l, d));
+    }
+    if h < 0x43C0 {
+        return Decoded::Unknown;
+    }
+    if h < 0x4400 {
+        return Decoded::Known(Instr::Mvnr(l, d));
+    }
+    Decoded::Unknown
+}
+
+// LDRPCI, STR, LDR, STRI, LDRI: 4800 to 8FFF.
+fn memory(h: u16) -> Decoded
+    requires { ⌜ (0x4800 ≤ h) × (h < 0x9000) ⌝ }
+    ensures { λ r. ⌜ r ≡ find table h ⌝ }
+{
+    let d = (h % 8) as u8;
+    let l = (h / 8 % 8) as u8;
+    let n = (h / 64 % 32) as u8;
+    let r = (h / 64 % 8) as u8;
+    let u = (h % 256) as u8;
+    let e = (h / 256 % 8) as u8;
+    if h < 0x5000 {
+        return Decoded::Known(Instr::Ldrpci(e, u));
+    }
+    if h < 0x5200 {
+        return Decoded::Known(Instr::Str(r, l, d));
+    }
+    if h < 0x5800 {
+        return Decoded::Unknown;
+    }
+    if h < 0x5A00 {
+        return Decoded::Known(Instr::Ldr(r, l, d));
+    }
+    if h < 0x6000 {
+        return Decoded::Unknown;
+    }
+    if h < 0x6800 {
+        return Decoded::Known(Instr::Stri(n, l, d));
+    }
+    if h < 0x7000 {
+        return Decoded::Known(Instr::Ldri(n, l, d));
+    }
+    Decoded::Unknown
+}
+
+// STRSPI, LDRSPI, ADDPCI, ADDSPI, INCSP, DECSP: 9000 to CFFF.
+fn stack(h: u16) -> Decoded
+    requires { ⌜ (0x9000 ≤ h) × (h < 0xD000) ⌝ }
+    ensures { λ r. ⌜ r ≡ find table h ⌝ }
+{
+    let u = (h % 256) as u8;
+    let e = (h / 256 % 8) as u8;
+    let s = (h % 128) as u8;
+    if h < 0x9800 {
+        return Decoded::Known(Instr::Strspi(e, u));
+    }
+    if h < 0xA000 {
+        return Decoded::Known(Instr::Ldrspi(e, u));
+    }
+    if h < 0xA800 {
+        return Decoded::Known(Instr::Addpci(e, u));
+    }
+    if h < 0xB000 {
+        return Decoded::Known(Instr::Addspi(e, u));
+    }
+    if h < 0xB080 {
+        return Decoded::Known(Instr::Incsp(s));
+    }
+    if h < 0xB100 {
+        return Decoded::Known(Instr::Decsp(s));
+    }
+    Decoded::Unknown
+}
+
+// The branches of one halfword, and SVC: D000 to EFFF.
+fn jump(h: u16) -> Decoded
+    requires { ⌜ (0xD000 ≤ h) × (h < 0xF000) ⌝ }
+    ensures { λ r. ⌜ r ≡ find table h ⌝ }
+{
+    let u = (h % 256) as u8;
+    let k = widen(128, (h % 256) as u32);
+    let j = widen(1024, (h % 2048) as u32);
+    if h < 0xD100 {
+        return Decoded::Known(Instr::Beq(k));
+    }
+    if h < 0xD200 {
+        return Decoded::Known(Instr::Bne(k));
+    }
+    if h < 0xDA00 {
+        return Decoded::Unknown;
+    }
+    if h < 0xDB00 {
+        return Decoded::Known(Instr::Bge(k));
+    }
+    if h < 0xDC00 {
+        return Decoded::Known(Instr::Blt(k));
+    }
+    if h < 0xDF00 {
+        return Decoded::Unknown;
+    }
+    if h < 0xE000 {
+        return Decoded::Known(Instr::Svc(u));
+    }
+    if h < 0xE800 {
+        return Decoded::Known(Instr::Bu(j));
+    }
+    Decoded::Unknown
+}
+
+// The instruction of a halfword, and of the one after it for F000 to F7FF.
+pub fn decode(h: u16, second: u16) -> Decoded
+    ensures { λ r. ⌜ r ≡ decodeOf h second ⌝ }
+{
+    if h < 0x4000 {
+        return low(h);
+    }
+    if h < 0x4800 {
+        return logical(h);
+    }
+    if h < 0x9000 {
+        return memory(h);
+    }
+    if h < 0xD000 {
+        return stack(h);
+    }
+    if h < 0xF000 {
+        return jump(h);
+    }
+    if h >= 0xF800 {
+        return Decoded::Unknown;
+    }
+    if second < 0xF800 {
+        return Decoded::Unknown;
+    }
+    let f = ((h - 0xF000) as u32) * 2048 + ((second - 0xF800) as u32);
+    Decoded::Known(Instr::Bl(widen(2097152, f)))
+}
