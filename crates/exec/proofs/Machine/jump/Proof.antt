@@ -1,0 +1,13 @@
+-- `exec::Machine::jump` meets its contract: the answers are the definition's, test by test and call by call.
+-- Rests on the definitions that its contract cites; assumes nothing.
+use Rattle.exec.specs.State.{jump}
+use borrow.Author.Needs.{needs}
+use Rattle.exec.proofs.Machine.jump.Statement.{statement}
+use Rattle.exec.proofs.Machine.jump.Tie as tie
+
+pub jump-spec : {M : Type 1} → statement M
+jump-spec = tie.close (tie.spec
+    (λ c κs. search needs)
+    (λ c κs. search needs)
+    (λ c κs. search needs)
+    (λ c. unfold jump in rw (c .add3 .ensures, c .before .add2 .ensures, c .before .before .add .ensures)))

@@ -1,0 +1,5 @@
+-- The machine's state and its instructions.
+pub mod State
+pub mod Exec
+pub mod Lookup
+pub mod Outcome

@@ -1,0 +1,150 @@
+-- A run is its steps: the step rule iterated, the run's count against the iterations that succeeded, and two runs in a row. Rests on Run, Turns and Laws.
+use mathlib.Core.Path.{_≡_, refl, sym, ap, _∙_}
+use mathlib.Core.Bool.{Bool, true, false}
+use mathlib.Core.List.{List, [], _∷_}
+use Prim.Native.Nat.{ℕ, zero, suc, _+_}
+use native.Mathlib.Nat.{add-zero, zero-add}
+use native.Mathlib.Omega.{arith}
+use lib.ListN.{length}
+use lib.Dec.{eqb, leb}
+use borrow.Author.Tests.{eqb-true, eqb-false, eq-eqb, le-leb, lt-leb}
+use Rattle.word.specs.Choice.{pick, by-test}
+use Rattle.exec.specs.Exec.{After, after, done, fault}
+use Rattle.exec.specs.declared.Machine.{Machine}
+use Rattle.exec.specs.declared.Stepped.{Stepped}
+use Rattle.machine.specs.Step.{onceOf, refusalOf, stepOf}
+use Rattle.machine.specs.Run.{RunAfter, run-after, ran, onward, runFrom, runOf}
+use Rattle.machine.specs.Turns.{run-from-add}
+use Rattle.machine.specs.Laws.{once-length, once-done}
+
+-- ── the iterations ──
+
+-- the step rule iterated: at most n steps, each from where the one before left state and words; the first that isn't an ordinary completion is the last
+unfoldable pub iterations : ℕ → List ℕ → List ℕ → Machine → List After
+iterations zero c w m = []
+iterations (suc n) c w m =
+    let a = stepOf c w m .after in
+    a ∷ pick (eqb (a .state .status) 0) (iterations n c (a .words) (a .state .machine)) []
+
+-- "reports how many completed": an iteration succeeded if it completed an instruction, or was an SVC
+unfoldable pub successes : List After → ℕ
+successes [] = 0
+successes (a ∷ more) = pick (leb (a .state .status) 1) (suc (successes more)) (successes more)
+
+-- the last of some, or x
+unfoldable pub last-of : After → List After → After
+last-of x [] = x
+last-of x (a ∷ more) = last-of a more
+
+-- what a run that made these iterations reports: the last one's answer, state and words, and how many succeeded
+abbrev pub reported : ℕ → After → List After → RunAfter
+reported k x its = run-after (ran (last-of x its .state) (k + successes its)) (last-of x its .words)
+
+-- ── steps of a run aren't refused ──
+
+step-is-once : (c w : List ℕ) (m : Machine) → refusalOf c w ≡ 0 → stepOf c w m ≡ onceOf c w m
+unfolding stepOf
+step-is-once c w m r = rw (eq-eqb (refusalOf c w) 0 r)
+
+-- a refusal goes by the lengths alone
+refusal-length : (c w v : List ℕ) → length v ≡ length w → refusalOf c v ≡ refusalOf c w
+unfolding refusalOf
+refusal-length c w v e = rw e
+
+still-accepted : (c w : List ℕ) (m : Machine) → refusalOf c w ≡ 0 → refusalOf c (onceOf c w m .after .words) ≡ 0
+still-accepted c w m r = refusal-length c w (onceOf c w m .after .words) (once-length c w m) ∙ r
+
+-- ── a run is its iterations ──
+
+turn : (k : ℕ) (x a : After) (its : List After) (more : RunAfter) → (a .state .status ≡ 0 → more ≡ reported (k + 1) a its)
+    → onward (eqb (a .state .status) 0) (eqb (a .state .status) 1) more a k ≡ reported k x (a ∷ pick (eqb (a .state .status) 0) its [])
+unfolding successes last-of
+turn k x a its more h =
+    let s = a .state .status in
+    by-test (λ t. onward t (eqb s 1) more a k ≡ reported k x (a ∷ pick t its [])) (eqb s 0)
+    (λ e. let z = eqb-true s 0 e in h z ∙ rw (le-leb s 1 (omega arith)) (ap (λ (j : ℕ). run-after (ran (last-of a its .state) j) (last-of a its .words)) (omega arith)))
+    (λ e. by-test (λ t. onward false t more a k ≡ reported k x (a ∷ [])) (eqb s 1)
+    (λ f. rw (eqb-true s 1 f))
+    (λ f. rw (lt-leb s 1 (omega (arith, eqb-false s 0 e, eqb-false s 1 f))) (ap (λ (j : ℕ). run-after (ran (a .state) j) (a .words)) (sym (add-zero k)))))
+
+run-from-iterations : (n k : ℕ) (c w : List ℕ) (m : Machine) → refusalOf c w ≡ 0 → runFrom n k c w m ≡ reported k (after (done m) w) (iterations n c w m)
+unfolding runFrom iterations
+run-from-iterations zero k c w m r = unfold successes last-of in ap (λ (j : ℕ). run-after (ran (done m) j) w) (sym (add-zero k))
+run-from-iterations (suc n) k c w m r =
+    let a = onceOf c w m .after in
+    let its = iterations n c (a .words) (a .state .machine) in
+    rw (step-is-once c w m r)
+    (turn k (after (done m) w) a its (runFrom n (k + 1) c (a .words) (a .state .machine))
+    (λ z. run-from-iterations n (k + 1) c (a .words) (a .state .machine) (still-accepted c w m r) ∙ ap (λ (s : Stepped). reported (k + 1) (after s (a .words)) its) (sym (once-done c w m z))))
+
+-- a run hands back the last iteration's answer, state and words, and counts those that succeeded
+pub run-is-iterations : (n : ℕ) (c w : List ℕ) (m : Machine) → refusalOf c w ≡ 0 → runOf n c w m ≡ reported 0 (after (done m) w) (iterations n c w m)
+unfolding runOf
+run-is-iterations n c w m r = rw (eq-eqb (refusalOf c w) 0 r) (run-from-iterations n 0 c w m r)
+
+-- "the number equals the count of successful iterations of the step definition"
+pub run-count : (n : ℕ) (c w : List ℕ) (m : Machine) → refusalOf c w ≡ 0 → runOf n c w m .state .count ≡ successes (iterations n c w m)
+run-count n c w m r = ap (λ (x : RunAfter). x .state .count) (run-is-iterations n c w m r) ∙ zero-add _
+
+-- ── two runs in a row ──
+
+-- a run's report with k more completed before it
+abbrev pub counted : ℕ → RunAfter → RunAfter
+counted k r = run-after (record { machine = r .state .machine; status = r .state .status; number = r .state .number; count = k + r .state .count }) (r .words)
+
+run-from-counted : (n k : ℕ) (c w : List ℕ) (m : Machine) → refusalOf c w ≡ 0 → runFrom n k c w m ≡ counted k (runFrom n 0 c w m)
+run-from-counted n k c w m r =
+    let its = iterations n c w m in
+    let l = last-of (after (done m) w) its in
+    run-from-iterations n k c w m r
+    ∙ sym (ap (counted k) (run-from-iterations n 0 c w m r) ∙ ap (λ (j : ℕ). run-after (ran (l .state) (k + j)) (l .words)) (zero-add (successes its)))
+
+run-from-length : (n k : ℕ) (c w : List ℕ) (m : Machine) → length (runFrom n k c w m .words) ≡ length w
+unfolding runFrom
+run-from-length zero k c w m = refl
+run-from-length (suc n) k c w m =
+    let a = onceOf c w m .after in
+    go (eqb (a .state .status) 0) (eqb (a .state .status) 1) (runFrom n (k + 1) c (a .words) (a .state .machine)) a (once-length c w m) (run-from-length n (k + 1) c (a .words) (a .state .machine) ∙ once-length c w m)
+  where
+    go : (t u : Bool) (more : RunAfter) (a : After) → length (a .words) ≡ length w → length (more .words) ≡ length w → length (onward t u more a k .words) ≡ length w
+    go true u more a p q = q
+    go false true more a p q = p
+    go false false more a p q = p
+
+pub run-length : (n : ℕ) (c w : List ℕ) (m : Machine) → length (runOf n c w m .words) ≡ length w
+unfolding runOf
+run-length n c w m =
+    by-test (λ t. length (pick t (runFrom n 0 c w m) (run-after (ran (fault m (refusalOf c w)) 0) w) .words) ≡ length w) (eqb (refusalOf c w) 0)
+    (λ _. run-from-length n 0 c w m)
+    (λ _. refl)
+
+-- a run that reached its limit wasn't refused
+limit-accepted : (n : ℕ) (c w : List ℕ) (m : Machine) → runOf n c w m .state .status ≡ 0 → refusalOf c w ≡ 0
+unfolding runOf
+limit-accepted n c w m =
+    by-test (λ t. pick t (runFrom n 0 c w m) (run-after (ran (fault m (refusalOf c w)) 0) w) .state .status ≡ 0 → refusalOf c w ≡ 0) (eqb (refusalOf c w) 0)
+    (λ e _. eqb-true (refusalOf c w) 0 e)
+    (λ _ z. z)
+
+run-accepted : (n : ℕ) (c w : List ℕ) (m : Machine) → refusalOf c w ≡ 0 → runOf n c w m ≡ runFrom n 0 c w m
+unfolding runOf
+run-accepted n c w m r = rw (eq-eqb (refusalOf c w) 0 r)
+
+-- a limit of a, then one of b, is one of a + b, while nothing ended
+pub run-add : (a b : ℕ) (c w : List ℕ) (m : Machine) → runOf a c w m .state .status ≡ 0
+    → runOf (a + b) c w m ≡ counted (runOf a c w m .state .count) (runOf b c (runOf a c w m .words) (runOf a c w m .state .machine))
+run-add a b c w m z =
+    let r = limit-accepted a c w m z in
+    let x = runFrom a 0 c w m in
+    let x≡ = run-accepted a c w m r in
+    let r′ : refusalOf c (x .words) ≡ 0 = refusal-length c w (x .words) (run-from-length a 0 c w m) ∙ r in
+    run-accepted (a + b) c w m r
+    ∙ run-from-add a b 0 c w m (ap (λ (y : RunAfter). y .state .status) (sym x≡) ∙ z)
+    ∙ run-from-counted b (x .state .count) c (x .words) (x .state .machine) r′
+    ∙ ap (counted (x .state .count)) (sym (run-accepted b c (x .words) (x .state .machine) r′))
+    ∙ ap (λ (y : RunAfter). counted (y .state .count) (runOf b c (y .words) (y .state .machine))) (sym x≡)
+
+-- "Limit 0, if not refused, does nothing"
+pub run-none : (c w : List ℕ) (m : Machine) → refusalOf c w ≡ 0 → runOf 0 c w m ≡ run-after (ran (done m) 0) w
+unfolding runFrom
+run-none c w m r = run-accepted 0 c w m r

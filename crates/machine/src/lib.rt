@@ -1,0 +1,193 @@
+// The machine's public calls: start, step, run.
+ghost use mathlib.Core.Path.{_≡_};
+ghost use Prim.Native.Nat.{_+_, _<_, _≤_};
+ghost use lib.ListN.{length, getD};
+ghost use Rattle.exec.specs.Exec as exec_spec;
+ghost use Rattle.machine.specs.Start as starts;
+ghost use Rattle.machine.specs.Step as steps;
+ghost use Rattle.machine.specs.Run as runs;
+use exec::Machine;
+use exec::Stepped;
+use thumb::Decoded;
+
+// What a run did (as a step's status and number; 0 where the limit was reached), and how many instructions it completed.
+pub struct Ran {
+    pub machine: Machine,
+    pub status: u32,
+    pub number: u32,
+    pub count: u64,
+}
+
+pub struct Started {
+    pub status: u32,
+    pub machine: Machine,
+}
+
+// The halfwords at pc, the second 0 where the first does not ask for one.
+pub enum Fetched {
+    Halves(u16, u16),
+    Outside,
+}
+
+const CODE_LIMIT: usize = 65536;
+
+const MEMORY_LIMIT: usize = 16384;
+
+fn byte(code: &[u8], i: usize) -> u32
+    requires { ⌜ i < length (now code) ⌝ }
+    ensures { λ r. ⌜ (r ≡ getD (now (code .entry)) i 0) × (r < 256) ⌝ }
+{
+    code[i] as u32
+}
+
+fn half(code: &[u8], i: usize) -> u16
+    requires { ⌜ i + 2 ≤ length (now code) ⌝ }
+    ensures { λ r. ⌜ r ≡ steps.halfAt (now (code .entry)) i ⌝ }
+{
+    (byte(code, i) + 256 * byte(code, i + 1)) as u16
+}
+
+fn with_second(code: &[u8], i: usize, h: u16) -> Fetched
+    requires { ⌜ i < 4294967296 ⌝ }
+    ensures { λ r. ⌜ r ≡ steps.withSecond (now (code .entry)) i h ⌝ }
+{
+    if h < 0xF000 {
+        return Fetched::Halves(h, 0);
+    }
+    if h >= 0xF800 {
+        return Fetched::Halves(h, 0);
+    }
+    if i + 4 > code.len() {
+        return Fetched::Outside;
+    }
+    Fetched::Halves(h, half(code, i + 2))
+}
+
+fn fetch(code: &[u8], pc: u32) -> Fetched
+    ensures { λ r. ⌜ r ≡ steps.fetchOf (now (code .entry)) pc ⌝ }
+{
+    if pc % 2 != 0 {
+        return Fetched::Outside;
+    }
+    let i = pc as usize;
+    if i + 2 > code.len() {
+        return Fetched::Outside;
+    }
+    with_second(code, i, half(code, i))
+}
+
+// Fetch, decode, execute.
+fn once(machine: Machine, code: &[u8], memory: &mut [u32]) -> Stepped
+    ensures { λ r. ⌜ exec_spec.after r (now (memory .exit)) ≡ steps.onceOf (now (code .entry)) (now (memory .entry)) machine .after ⌝ }
+{
+    let Fetched::Halves(h, k) = fetch(code, machine.pc) else {
+        return machine.fault(21);
+    };
+    let Decoded::Known(i) = thumb::decode(h, k) else {
+        return machine.fault(22);
+    };
+    execute::execute(machine, i, code, memory)
+}
+
+// 31 code too long, 32 memory too long, or 0.
+fn refusal(code: &[u8], memory: &[u32]) -> u32
+    ensures { λ r. ⌜ r ≡ steps.refusalOf (now (code .entry)) (now (memory .entry)) ⌝ }
+{
+    if code.len() > CODE_LIMIT {
+        return 31;
+    }
+    if memory.len() > MEMORY_LIMIT {
+        return 32;
+    }
+    0
+}
+
+// One instruction.
+pub fn step(machine: Machine, code: &[u8], memory: &mut [u32]) -> Stepped
+    ensures { λ r. ⌜ exec_spec.after r (now (memory .exit)) ≡ steps.stepOf (now (code .entry)) (now (memory .entry)) machine .after ⌝ }
+{
+    let refused = refusal(code, memory);
+    if refused != 0 {
+        return machine.fault(refused);
+    }
+    once(machine, code, memory)
+}
+
+fn stopped(s: Stepped, count: u64) -> Ran
+    ensures { λ r. ⌜ r ≡ runs.ran s count ⌝ }
+{
+    let machine = s.machine;
+    Ran {
+        machine,
+        status: s.status,
+        number: s.number,
+        count,
+    }
+}
+
+// At most `limit` instructions.
+pub fn run(machine: Machine, code: &[u8], memory: &mut [u32], limit: u64) -> Ran
+    ensures { λ r. ⌜ runs.run-after r (now (memory .exit)) ≡ runs.runOf limit (now (code .entry)) (now (memory .entry)) machine ⌝ }
+{
+    let refused = refusal(code, memory);
+    if refused != 0 {
+        return stopped(machine.fault(refused), 0);
+    }
+    let mut m = machine;
+    let mut k: u64 = 0;
+    while k < limit {
+        let s = once(m, code, memory);
+        let status = s.status;
+        if status == 1 {
+            return stopped(s, k + 1);
+        }
+        if status != 0 {
+            return stopped(s, k);
+        }
+        m = s.machine;
+        k += 1;
+    }
+    Ran {
+        machine: m,
+        status: 0,
+        number: 0,
+        count: k,
+    }
+}
+
+// 31, 32, 34 declared words or depth too large, 33 memory too short, or 0.
+fn start_refusal(code: &[u8], memory: &[u32], declared: u32, depth: u32) -> u32
+    ensures { λ r. ⌜ r ≡ starts.startRefusal (now (code .entry)) (now (memory .entry)) declared depth ⌝ }
+{
+    let refused = refusal(code, memory);
+    if refused != 0 {
+        return refused;
+    }
+    if declared > 8192 {
+        return 34;
+    }
+    if depth > 32 {
+        return 34;
+    }
+    if (memory.len() as u64) < exec::needed(declared, depth) {
+        return 33;
+    }
+    0
+}
+
+// The state to begin with, for an image of `declared` words of data and depth `depth`.
+pub fn start(code: &[u8], memory: &[u32], declared: u32, depth: u32) -> Started
+    ensures { λ r. ⌜ r ≡ starts.startOf (now (code .entry)) (now (memory .entry)) declared depth ⌝ }
+{
+    let refused = start_refusal(code, memory, declared, depth);
+    if refused != 0 {
+        return Started {
+            status: refused,
+            machine: Machine::zeros(),
+        };
+    }
+    Started {
+        status: 0,
+        machine: Machine::fresh(declared, depth),
+    }
+}
