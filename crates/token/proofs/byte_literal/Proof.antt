@@ -1,0 +1,20 @@
+-- `token::byte_literal` meets its contract. Each way through the code makes the same choices as the definition.
+-- Assumes nothing.
+use Rattle.word.specs.Tests.{tests}
+use Rattle.token.specs.Lexemes.{byte-literal}
+use borrow.Author.Needs.{needs}
+use Rattle.token.proofs.byte_literal.Statement.{statement}
+use Rattle.token.proofs.byte_literal.Tie as tie
+
+pub byte-literal-spec : {M : Type 1} → statement M
+byte-literal-spec =
+    tie.close
+    (tie.spec
+    (λ c κs. search needs)
+    (λ c κs. search needs)
+    (λ c. unfold byte-literal in rw (← c .before .before .byte .ensures) (search tests depth 20))
+    (λ c κs. search needs)
+    (λ c. search needs)
+    (λ c κs. search needs)
+    (λ c. unfold byte-literal in rw (← c .before .before .before .before .byte .ensures) (search tests depth 20))
+    (λ c. unfold byte-literal in rw (← c .before .before .before .byte .ensures) (search tests depth 20)))

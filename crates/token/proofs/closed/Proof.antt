@@ -1,0 +1,14 @@
+-- `token::closed` meets its contract. Each way through the code makes the same choices as the definition.
+-- Assumes nothing.
+use Rattle.word.specs.Tests.{tests}
+use Rattle.token.specs.Lexemes.{closed}
+use borrow.Author.Needs.{needs}
+use Rattle.token.proofs.closed.Statement.{statement}
+use Rattle.token.proofs.closed.Tie as tie
+
+pub closed-spec : {M : Type 1} → statement M
+closed-spec = tie.close (tie.spec
+    (λ c κs. search needs)
+    (λ c. search needs)
+    (λ c. unfold closed in rw (← c .before .byte .ensures) (search tests depth 20))
+    (λ c. unfold closed in rw (← c .before .byte .ensures) (search tests depth 20)))

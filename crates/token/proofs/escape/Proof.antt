@@ -1,0 +1,20 @@
+-- `token::escape` meets its contract. Each way through the code makes the same choices as the definition.
+-- Assumes nothing.
+use Rattle.word.specs.Tests.{tests}
+use Rattle.token.specs.Lexemes.{escape}
+use borrow.Author.Needs.{needs}
+use Rattle.token.proofs.escape.Statement.{statement}
+use Rattle.token.proofs.escape.Tie as tie
+
+pub escape-spec : {M : Type 1} → statement M
+escape-spec =
+    tie.close
+    (tie.spec
+    (λ c κs. search needs)
+    (λ c κs. search needs)
+    (λ c. unfold escape in rw (← c .before .before .byte .ensures) (search tests depth 20))
+    (λ c κs. search needs)
+    (λ c. unfold escape in rw (← c .before .before .before .byte .ensures, ← c .before .escape-value .ensures) (search tests depth 20))
+    (λ c. search needs)
+    (λ c κs. search needs)
+    (λ c. unfold escape in rw (← c .before .before .before .before .byte .ensures, ← c .before .before .escape-value .ensures) (search tests depth 20)))

@@ -1,0 +1,35 @@
+-- `token::lexeme_at` meets its contract. Each way through the code makes the same choices as the definition.
+-- Assumes nothing.
+use native.Mathlib.Omega.{arith}
+use lib.Seq.{drop-drop}
+use Rattle.word.specs.Tests.{tests}
+use Rattle.token.specs.Lexemes.{lexeme}
+use borrow.Author.Needs.{needs}
+use Rattle.token.proofs.lexeme_at.Statement.{statement}
+use Rattle.token.proofs.lexeme_at.Tie as tie
+
+pub lexeme-at-spec : {M : Type 1} → statement M
+lexeme-at-spec =
+    tie.close
+    (tie.spec
+    (λ c κs. search needs)
+    (λ c. search needs)
+    (λ c κs. search needs)
+    (λ c. unfold lexeme in rw (← c .before .before .before .byte .ensures) (search tests depth 20))
+    (λ c κs. search needs)
+    (λ c κs. search needs)
+    (λ c. unfold lexeme in rw (← c .before .before .before .before .before .before .byte .ensures) (search tests depth 20))
+    (λ c κs. search needs)
+    (λ c κs. search needs)
+    (λ c. unfold lexeme in rw (← c .before .before .before .before .before .before .before .before .byte .ensures, ← c .before .before .digit-value .ensures) (search tests depth 20))
+    (λ c. search needs)
+    (λ c κs. search needs)
+    (λ c. unfold lexeme in rw (← c .before .before .before .before .before .before .before .before .before .byte .ensures, ← c .before .before .before .digit-value .ensures, drop-drop 1 (c .before .before .before .before .before .before .before .before .before .before .before .args .i) (c .before .before .before .before .before .before .before .before .before .before .before .args .s .now)) (search tests depth 20))
+    (λ c κs. search needs)
+    (λ c. unfold lexeme in rw (← c .before .before .before .before .before .before .before .before .before .before .byte .ensures, ← c .before .before .before .before .digit-value .ensures) (search tests depth 20))
+    (λ c. search needs)
+    (λ c κs. search needs)
+    (λ c. unfold lexeme in rw (← c .before .before .before .before .before .before .before .before .before .before .before .byte .ensures, ← c .before .before .before .before .before .digit-value .ensures, drop-drop 1 (c .before .before .before .before .before .before .before .before .before .before .before .before .before .args .i) (c .before .before .before .before .before .before .before .before .before .before .before .before .before .args .s .now)) (search tests depth 20))
+    (λ c κs. search needs)
+    (λ c κs. search needs)
+    (λ c. unfold lexeme in rw (← c .before .before .before .before .before .before .before .before .before .before .before .before .byte .ensures, ← c .before .byte2 .ensures, ← c .before .before .before .before .before .before .digit-value .ensures) (search tests depth 20)))

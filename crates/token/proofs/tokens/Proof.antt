@@ -1,0 +1,12 @@
+-- `token::tokens` meets its contract. Each way through the code makes the same choices as the definition.
+-- Assumes nothing.
+use Rattle.token.specs.TokenLaws.{outcome-long}
+use borrow.Author.Needs.{needs}
+use Rattle.token.proofs.tokens.Statement.{statement}
+use Rattle.token.proofs.tokens.Tie as tie
+
+pub tokens-spec : {M : Type 1} → statement M
+tokens-spec = tie.close (tie.spec
+    (λ c. (outcome-long (c .before .before .args .source .now) (c .if1 .taken), tt))
+    (λ c κs. search needs)
+    (λ c. search needs))
