@@ -1,0 +1,10 @@
+-- Resolved programs: the tree with offsets in it, its depth, the tree of the syntax table, and the table's rows.
+pub mod Tree
+pub mod Depth
+pub mod Core
+pub mod Resolved
+pub mod Rows
+pub mod Table
+pub mod Sound
+pub mod ReadBack
+pub mod SoundTree

@@ -1,0 +1,1 @@
+// Resolved programs: see specs/.
