@@ -1,0 +1,26 @@
+-- `put` writes a row's four words.
+use native.Mathlib.Numerals.{towards-suc}
+use borrow.Author.Needs.{needs}
+use Rattle.expressions.proofs.put.Statement.{statement}
+use Rattle.expressions.proofs.put.Tie as tie
+
+pub put-spec : {M : Type 1} → statement M
+put-spec =
+    tie.close
+    (tie.spec
+    (λ c. search needs)
+    (λ c. search needs)
+    (λ c. search needs)
+    (λ c. search needs)
+    (λ c. search needs)
+    (λ c. search needs)
+    (λ c. search needs)
+    (λ c. search needs)
+    (λ c. search needs)
+    (λ c. search needs)
+    (λ c. search needs)
+    (λ c. search needs)
+    (λ c. search needs)
+    (λ c. search needs)
+    (λ c. search needs)
+    (λ c. simp towards-suc))

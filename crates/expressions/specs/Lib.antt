@@ -1,0 +1,3 @@
+-- What the readers of expressions promise.
+pub mod Reads
+pub mod Parts

@@ -1,0 +1,13 @@
+-- The parts that the readers of processes read. Definitions; rests on the grammar and on the form of a part.
+use Rattle.grammar.specs.Grammar.{Process, Processes, braces}
+use Rattle.grammar.specs.Automaton.{ProcessContext, in-braces, ListContext, list-base, list-built, need-process, have-process}
+use Rattle.grammar.specs.Rows.{count-process, count-processes, rows-process, rows-processes}
+use Rattle.grammar.specs.Depth.{depth-process, depth-processes, deepest-process, deepest-processes}
+use Rattle.expressions.specs.Reads.{Form}
+
+abbrev pub process-form : Form
+process-form = record { Tree = Process; count = count-process; rows = rows-process; depth = depth-process; deepest = deepest-process; Context = ProcessContext; need = need-process; have = have-process }
+
+-- the processes after an opening brace, and the closing brace
+abbrev pub list-form : Form
+list-form = record { Tree = Processes; count = count-processes; rows = rows-processes; depth = depth-processes; deepest = deepest-processes; Context = ListContext; need = λ k. need-process (in-braces k); have = λ ps k. have-process (braces (list-built k ps)) (list-base k) }

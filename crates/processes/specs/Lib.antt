@@ -1,0 +1,3 @@
+-- What the readers of processes promise, and the laws behind it.
+pub mod Forms
+pub mod Processes

@@ -1,0 +1,154 @@
+// A reader of programs: specifications, then one process.
+use expressions::Read;
+use expressions::kind_at;
+use processes::process;
+ghost use mathlib.Core.Path.{_≡_};
+ghost use Prim.Native.Nat.{ℕ, _+_, _≤_};
+ghost use mathlib.Core.List.{List};
+ghost use lib.ListN.{length, getD};
+ghost use Rattle.grammar.specs.Automaton.{reads};
+ghost use Rattle.grammar.specs.Tokens.{unread};
+ghost use Rattle.reader.specs.Answer.{answer, Written};
+ghost use Rattle.reader.specs.Front.{«Reads-specification», «Reads-front», ended};
+
+// The token after a specification's `;` and the number of rows it declares; or the token that no program continues with.
+pub enum Specified {
+    Next(usize, usize),
+    Bad(usize),
+}
+
+// The token after the last specification's `;`, the process's first token that is no comment, and the number of declared rows; or the token that no program continues with.
+pub enum Front {
+    Process(usize, usize, usize),
+    Bad(usize),
+}
+
+// The token after the last specification's `;`, the number of rows, the process depth and the deepest expression; or the token that no program continues with.
+pub enum Answer {
+    Program(usize, usize, usize, usize),
+    Refused(usize),
+}
+
+// The `;` at token j, after a specification that declares d rows.
+fn end(kinds: &[u8], j: usize, d: usize) -> Specified
+    requires { ⌜ j ≤ length (now kinds) ⌝ }
+    ensures { λ r. ⌜ r ≡ ended (now (kinds .entry)) j d ⌝ }
+{
+    if kind_at(kinds, j) == 10 {
+        return Specified::Next(j + 1, d);
+    }
+    Specified::Bad(j)
+}
+
+// `var n` at token i.
+fn var_at(kinds: &[u8], i: usize) -> Specified
+    requires { ⌜ (length (now kinds) ≤ 1024) × (getD (now kinds) i 0 ≡ 13) ⌝ }
+    ensures { λ r. ⌜ ((values : List ℕ) → «Reads-specification» (now (kinds .entry)) values i r) ⌝ }
+{
+    if kind_at(kinds, i + 1) == 2 {
+        return end(kinds, i + 2, 1);
+    }
+    Specified::Bad(i + 1)
+}
+
+// `array n [ c ]` at token i.
+fn array_at(kinds: &[u8], i: usize) -> Specified
+    requires { ⌜ (length (now kinds) ≤ 1024) × (getD (now kinds) i 0 ≡ 14) ⌝ }
+    ensures { λ r. ⌜ ((values : List ℕ) → «Reads-specification» (now (kinds .entry)) values i r) ⌝ }
+{
+    if kind_at(kinds, i + 1) != 2 {
+        return Specified::Bad(i + 1);
+    }
+    if kind_at(kinds, i + 2) != 6 {
+        return Specified::Bad(i + 2);
+    }
+    let c = kind_at(kinds, i + 3);
+    if c < 1 {
+        return Specified::Bad(i + 3);
+    }
+    if 2 < c {
+        return Specified::Bad(i + 3);
+    }
+    if kind_at(kinds, i + 4) != 7 {
+        return Specified::Bad(i + 4);
+    }
+    end(kinds, i + 5, 1)
+}
+
+// `val n = c` at token i.
+fn val_at(kinds: &[u8], i: usize) -> Specified
+    requires { ⌜ (length (now kinds) ≤ 1024) × (getD (now kinds) i 0 ≡ 15) ⌝ }
+    ensures { λ r. ⌜ ((values : List ℕ) → «Reads-specification» (now (kinds .entry)) values i r) ⌝ }
+{
+    if kind_at(kinds, i + 1) != 2 {
+        return Specified::Bad(i + 1);
+    }
+    if kind_at(kinds, i + 2) != 39 {
+        return Specified::Bad(i + 2);
+    }
+    let c = kind_at(kinds, i + 3);
+    if c < 1 {
+        return Specified::Bad(i + 3);
+    }
+    if 2 < c {
+        return Specified::Bad(i + 3);
+    }
+    end(kinds, i + 4, 0)
+}
+
+// A specification at token i, with its `;`.
+fn specification(kinds: &[u8], i: usize) -> Specified
+    requires { ⌜ (length (now kinds) ≤ 1024) × (13 ≤ getD (now kinds) i 0) × (getD (now kinds) i 0 ≤ 15) ⌝ }
+    ensures { λ r. ⌜ ((values : List ℕ) → «Reads-specification» (now (kinds .entry)) values i r) ⌝ }
+{
+    let k = kind_at(kinds, i);
+    if k == 13 {
+        return var_at(kinds, i);
+    }
+    if k == 14 {
+        return array_at(kinds, i);
+    }
+    val_at(kinds, i)
+}
+
+// Comments and specifications from token i on, up to the process; n rows are declared before, and the tokens from `start` on are comments.
+fn specifications(kinds: &[u8], n: usize, start: usize, i: usize) -> Front
+    requires { ⌜ (length (now kinds) ≤ 1024) × (i ≤ length (now kinds)) × (n ≤ i) ⌝ }
+    ensures { λ r. ⌜ ((values : List ℕ) → «Reads-front» (now (kinds .entry)) values i n start r) ⌝ }
+{
+    let k = kind_at(kinds, i);
+    if k == 3 {
+        return specifications(kinds, n, start, i + 1);
+    }
+    if k < 13 {
+        return Front::Process(start, i, n);
+    }
+    if 15 < k {
+        return Front::Process(start, i, n);
+    }
+    match specification(kinds, i) {
+        Specified::Bad(x) => Front::Bad(x),
+        Specified::Next(j, d) => specifications(kinds, n + d, j, j),
+    }
+}
+
+// The program that the tokens are: its raw rows go into the table, numbered from the first row that no specification declares.
+pub fn program(kinds: &[u8], values: &[u32], table: &mut [u32; 4096]) -> Answer
+    requires { ⌜ (length (now kinds) ≤ 1024) × (length (now kinds) ≤ length (now values)) ⌝ }
+    ensures { λ r. ⌜ (r ≡ answer (length (now (kinds .entry))) (reads (unread (now (kinds .entry)) (now (values .entry)) 0))) × Written (reads (unread (now (kinds .entry)) (now (values .entry)) 0)) (now (table .entry)) (now (table .exit)) ⌝ }
+{
+    match specifications(kinds, 0, 0, 0) {
+        Front::Bad(x) => Answer::Refused(x),
+        Front::Process(s, i, n) => {
+            match process(kinds, values, table, n, i) {
+                Read::Bad(x) => Answer::Refused(x),
+                Read::Done(j, m, p, d) => {
+                    if j < kinds.len() {
+                        return Answer::Refused(j);
+                    }
+                    Answer::Program(s, m, p, d)
+                }
+            }
+        }
+    }
+}
