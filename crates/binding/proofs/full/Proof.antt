@@ -1,0 +1,12 @@
+-- `binding::full` meets its contract. Each way through the code makes the same choices as the definition.
+-- Assumes nothing.
+use Rattle.word.specs.Tests.{tests}
+use borrow.Author.Needs.{needs}
+use Rattle.binding.proofs.full.Statement.{statement}
+use Rattle.binding.proofs.full.Tie as tie
+
+pub full-spec : {M : Type 1} → statement M
+full-spec = tie.close (tie.spec
+    (λ c. search tests depth 20)
+    (λ c. search needs)
+    (λ c. search tests depth 20))

@@ -1,0 +1,28 @@
+-- `binding::judge` meets its contract. Each way through the code makes the same choices as the definition.
+-- Assumes nothing.
+use mathlib.Core.List.{_++_}
+use Rattle.names.specs.Complaints.{is-known, when, bad-length}
+use Rattle.name_table.specs.View.{meant}
+use Rattle.binding.specs.Judge.{listed, over}
+use mathlib.Core.Path.{sym, ap, _∙_}
+use borrow.Author.Tests.{eq-eqb, ne-eqb}
+use Rattle.names.specs.Complaints.{Verdict}
+use Rattle.binding.specs.Judge.{complaints-by, first-append, first-none, or-else}
+use borrow.Author.Needs.{needs}
+use Rattle.binding.proofs.judge.Statement.{statement}
+use Rattle.binding.proofs.judge.Tie as tie
+
+pub judge-spec : {M : Type 1} → statement M
+judge-spec =
+    tie.close
+    (tie.spec
+    (λ c κs. search needs)
+    (λ c. unfold complaints-by in rw (eq-eqb (c .before .before .args .k) 13 (c .before .if1 .taken)) (c .new-name .ensures))
+    (λ c κs. search needs)
+    (λ c. unfold complaints-by in let a = c .before .before .before .before .args in rw (ne-eqb (c .before .before .before .before .args .k) 13 (c .before .before .before .if1 .left), eq-eqb (c .before .before .before .before .args .k) 14 (c .before .before .if2 .taken), eq-eqb (c .before .before .before .before .args .status) 0 (c .before .if3 .taken)) (c .new-array .ensures ∙ sym (first-none (listed (a .p) (when (is-known (meant (a .m))) 9 ++ (when (bad-length (a .word)) 11 ++ when (over (a .names) (a .words) (a .word)) 12))))))
+    (λ c κs. search needs)
+    (λ c κs. search needs)
+    (λ c. unfold complaints-by in rw (ne-eqb (c .before .before .before .before .before .args .k) 13 (c .before .before .before .before .if1 .left), eq-eqb (c .before .before .before .before .before .args .k) 14 (c .before .before .before .if2 .taken), first-append) (c .and-constant .ensures ∙ rw (c .before .new-name2 .ensures, ne-eqb (c .before .before .before .before .before .args .status) 0 (c .before .before .if3 .left))))
+    (λ c κs. search needs)
+    (λ c κs. search needs)
+    (λ c. unfold complaints-by in rw (ne-eqb (c .before .before .before .before .args .k) 13 (c .before .before .before .if1 .left), ne-eqb (c .before .before .before .before .args .k) 14 (c .before .before .if2 .left), first-append) (c .and-constant2 .ensures ∙ rw (c .before .new-name3 .ensures))))

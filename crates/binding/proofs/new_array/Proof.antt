@@ -1,0 +1,18 @@
+-- `binding::new_array` meets its contract. Each way through the code makes the same choices as the definition.
+-- Assumes nothing.
+use mathlib.Core.Path.{sym, _∙_}
+use borrow.Author.Needs.{needs}
+use Rattle.binding.proofs.new_array.Statement.{statement}
+use Rattle.binding.proofs.new_array.Tie as tie
+
+pub new-array-spec : {M : Type 1} → statement M
+new-array-spec =
+    tie.close
+    (tie.spec
+    (λ c κs. search needs)
+    (λ c. rw (sym (c .before .known .ensures) ∙ c .if1 .taken))
+    (λ c κs. search needs)
+    (λ c. rw (sym (c .before .before .before .known .ensures) ∙ c .before .before .if1 .left, sym (c .before .bad-length .ensures) ∙ c .if2 .taken))
+    (λ c κs. search needs)
+    (λ c. rw (sym (c .before .before .before .before .before .known .ensures) ∙ c .before .before .before .before .if1 .left, sym (c .before .before .before .bad-length .ensures) ∙ c .before .before .if2 .left, sym (c .before .full .ensures) ∙ c .if3 .taken))
+    (λ c. rw (sym (c .before .before .before .before .before .known .ensures) ∙ c .before .before .before .before .if1 .left, sym (c .before .before .before .bad-length .ensures) ∙ c .before .before .if2 .left, sym (c .before .full .ensures) ∙ c .if3 .left)))

@@ -1,0 +1,221 @@
+-- One specification, from its tokens: what it deserves and what it declares, in the words that the code reads. Definitions and laws.
+-- Rests on the scope and the complaints of crate `names`.
+use mathlib.Core.Path.{_≡_, refl, sym, ap, ap₂, _∙_}
+use mathlib.Core.Bool.{Bool, true, false}
+use mathlib.Core.List.{List, [], _∷_, _++_}
+use Prim.Native.Nat.{ℕ, suc, _+_, _≤_}
+use native.Mathlib.Omega.{arith}
+use lib.Dec.{eqb, ltb}
+use lib.ListN.{getD}
+use native.Mathlib.Nat.{add-zero}
+use Rattle.word.specs.Choice.{pick}
+use Rattle.token.specs.Kinds as kind
+use Rattle.grammar.specs.Grammar.{Specification, val}
+use Rattle.grammar.specs.Grammar as grammar
+use Rattle.program.specs.Tree as tree
+use Rattle.program.specs.Rows.{row, declared-rows}
+use Rattle.names.specs.Scope.{Meaning, unknown, variable, array, constant, Entry, Scope, meaning-of, constant-word, declare}
+use Rattle.names.specs.Complaints.{Complaint, Verdict, fine, refused, is-known, as-constant, when, bad-length, too-many, at, of-constant, has-word, of-specification}
+use Rattle.names.specs.First.{first}
+use Rattle.names.specs.Resolve.{declared}
+use Rattle.name_table.specs.View.{meant, by-sort}
+use Rattle.binding.specs.declared.Verdict as code
+use Rattle.binding.specs.declared.Verdict.the-variants.{Fine, Refused}
+use Rattle.binding.specs.declared.Constant as read
+use Rattle.binding.specs.declared.Item.{Item}
+
+-- the code's answer as a verdict
+abbrev pub verdict-of : code.Verdict → Verdict
+verdict-of Fine = fine
+verdict-of (Refused number place) = refused (record { number = number; place = place })
+
+-- the first of two verdicts
+abbrev pub or-else : Verdict → Verdict → Verdict
+or-else fine v = v
+or-else (refused c) v = refused c
+
+pub first-append : (xs ys : List Complaint) → first (xs ++ ys) ≡ or-else (first xs) (first ys)
+first-append [] ys = refl
+first-append (x ∷ xs) ys = refl
+
+pub first-none : (xs : List Complaint) → first (xs ++ []) ≡ first xs
+first-none [] = refl
+first-none (x ∷ xs) = refl
+
+-- complaints of one place
+abbrev pub listed : ℕ → List ℕ → List Complaint
+listed p [] = []
+listed p (k ∷ ks) = record { number = k; place = p } ∷ listed p ks
+
+-- data or names over the limit
+abbrev pub over : ℕ → ℕ → ℕ → Bool
+over names words more = pick (ltb 255 names) true (ltb 8192 (words + more))
+
+-- a constant as the code reads it: 0 and its word, or the number of its complaint
+abbrev pub constant-by : Meaning → read.Constant
+constant-by unknown = record { status = 8; word = 0 }
+constant-by (variable v) = record { status = 10; word = 0 }
+constant-by (array a) = record { status = 10; word = 0 }
+constant-by (constant w) = record { status = 0; word = w }
+
+abbrev pub constant-read : (ℕ → List ℕ) → Scope → grammar.Constant → read.Constant
+constant-read text s (grammar.literal w) = record { status = 0; word = w }
+constant-read text s (grammar.named n) = constant-by (meaning-of text s n)
+
+-- no complaint, or one
+abbrev pub some : ℕ → List ℕ
+some status = pick (eqb status 0) [] (status ∷ [])
+
+-- what the name of a specification deserves and then its constant: k the specification's kind, m what the name stands for already
+unfoldable pub complaints-by : ℕ → Meaning → ℕ → ℕ → ℕ → ℕ → ℕ → ℕ → List Complaint
+complaints-by k m status word names words p q =
+    pick (eqb k kind.var) (listed p (when (is-known m) 9 ++ when (over names words 1) 12))
+    (pick (eqb k kind.array)
+    (listed p (when (is-known m) 9 ++ pick (eqb status 0) (when (bad-length word) 11 ++ when (over names words word) 12) (when (over names words 0) 12)) ++ listed q (some status))
+    (listed p (when (is-known m) 9 ++ when (over names words 0) 12) ++ listed q (some status)))
+
+-- what a specification enters: the name's sort, its row, its word and size; and how many rows and words it declares
+unfoldable pub item-of : ℕ → ℕ → ℕ → ℕ → Item
+item-of k word rows words =
+    pick (eqb k kind.var) (record { sort = 1; row = rows; word = words; size = 1; rows = 1; words = 1 })
+    (pick (eqb k kind.array) (record { sort = 2; row = rows; word = words; size = word; rows = 1; words = word })
+    (record { sort = 3; row = 0; word = word; size = 0; rows = 0; words = 0 }))
+
+-- the row of the syntax table that it makes, if any
+abbrev pub item-row : Item → List ℕ
+item-row e = pick (eqb (e .sort) 3) [] (row (e .sort) (e .word) (e .size) 0)
+
+-- the specification at token i, which is no comment
+abbrev pub constant-at : List ℕ → List ℕ → ℕ → grammar.Constant
+constant-at kinds values j = pick (eqb (getD kinds j 0) kind.number) (grammar.literal (getD values j 0)) (grammar.named j)
+
+abbrev pub specification-at : List ℕ → List ℕ → ℕ → Specification
+specification-at kinds values i =
+    pick (eqb (getD kinds i 0) kind.var) (grammar.var (i + 1))
+    (pick (eqb (getD kinds i 0) kind.array) (grammar.array (i + 1) (constant-at kinds values (i + 3))) (val (i + 1) (constant-at kinds values (i + 3))))
+
+-- and how many tokens it has, with its `;`
+abbrev pub width : ℕ → ℕ
+width k = pick (eqb k kind.var) 3 (pick (eqb k kind.array) 6 5)
+
+module _ (text : ℕ → List ℕ) (place : ℕ → ℕ) (s : Scope) where
+  at-listed : (n : ℕ) (ks : List ℕ) → at text place n ks ≡ listed (place n) ks
+  at-listed n [] = refl
+  at-listed n (k ∷ ks) = ap (λ (cs : List Complaint). record { number = k; place = place n } ∷ cs) (at-listed n ks)
+
+  as-some : (m : Meaning) → as-constant m ≡ some (constant-by m .status)
+  as-some unknown = refl
+  as-some (variable v) = refl
+  as-some (array a) = refl
+  as-some (constant w) = refl
+
+  -- a constant's complaint, by its status; its place is that of its token
+  constant-listed : (kinds values : List ℕ) (j : ℕ) → of-constant text place s (constant-at kinds values j) ≡ listed (place j) (some (constant-read text s (constant-at kinds values j) .status))
+  constant-listed kinds values j = by (eqb (getD kinds j 0) kind.number)
+    where
+      by : (b : Bool) → of-constant text place s (pick b (grammar.literal (getD values j 0)) (grammar.named j)) ≡ listed (place j) (some (constant-read text s (pick b (grammar.literal (getD values j 0)) (grammar.named j)) .status))
+      by true = refl
+      by false = at-listed j (as-constant (meaning-of text s j)) ∙ ap (listed (place j)) (as-some (meaning-of text s j))
+
+  word-by : (c : grammar.Constant) → constant-read text s c .word ≡ constant-word text s c
+  word-by (grammar.literal w) = refl
+  word-by (grammar.named n) = by (meaning-of text s n)
+    where
+      by : (m : Meaning) → constant-by m .word ≡ Rattle.names.specs.Scope.word-of m
+      by unknown = refl
+      by (variable v) = refl
+      by (array a) = refl
+      by (constant w) = refl
+
+  known-by : (c : grammar.Constant) → has-word text place s c ≡ eqb (constant-read text s c .status) 0
+  known-by (grammar.literal w) = refl
+  known-by (grammar.named n) = by (meaning-of text s n) refl
+    where
+      by : (m : Meaning) → meaning-of text s n ≡ m → has-word text place s (grammar.named n) ≡ eqb (constant-by m .status) 0
+      by unknown e = rw e
+      by (variable v) e = rw e
+      by (array a) e = rw e
+      by (constant w) e = rw e
+
+  module _ (kinds values : List ℕ) (i : ℕ) where
+    abbrev k : ℕ
+    k = getD kinds i 0
+
+    abbrev c : grammar.Constant
+    c = constant-at kinds values (i + 3)
+
+    -- THE LAW of complaints
+    pub specified-complaints : of-specification text place (specification-at kinds values i) s
+        ≡ complaints-by k (meaning-of text s (i + 1)) (constant-read text s c .status) (constant-read text s c .word) (s .names) (s .words) (place (i + 1)) (place (i + 3))
+    unfolding complaints-by
+    specified-complaints = by (eqb k kind.var) (eqb k kind.array)
+      where
+        m : Meaning
+        m = meaning-of text s (i + 1)
+
+        st : ℕ
+        st = constant-read text s c .status
+
+        w : ℕ
+        w = constant-read text s c .word
+
+        numbers : Bool → ℕ → List ℕ
+        numbers h v = when (is-known m) 9 ++ pick h (when (bad-length v) 11 ++ when (over (s .names) (s .words) v) 12) (when (over (s .names) (s .words) 0) 12)
+
+        by : (a b : Bool) → of-specification text place (pick a (grammar.var (i + 1)) (pick b (grammar.array (i + 1) c) (val (i + 1) c))) s
+            ≡ pick a (listed (place (i + 1)) (when (is-known m) 9 ++ when (over (s .names) (s .words) 1) 12))
+            (pick b
+            (listed (place (i + 1)) (when (is-known m) 9 ++ pick (eqb st 0) (when (bad-length w) 11 ++ when (over (s .names) (s .words) w) 12) (when (over (s .names) (s .words) 0) 12)) ++ listed (place (i + 3)) (some st))
+            (listed (place (i + 1)) (when (is-known m) 9 ++ when (over (s .names) (s .words) 0) 12) ++ listed (place (i + 3)) (some st)))
+        by true b = at-listed (i + 1) (when (is-known m) 9 ++ when (over (s .names) (s .words) 1) 12)
+        by false true =
+            ap₂ _++_ (at-listed (i + 1) (numbers (has-word text place s c) (constant-word text s c)) ∙ ap (listed (place (i + 1))) (ap₂ numbers (known-by c) (sym (word-by c)))) (constant-listed kinds values (i + 3))
+        by false false = ap₂ _++_ (at-listed (i + 1) (when (is-known m) 9 ++ when (over (s .names) (s .words) 0) 12)) (constant-listed kinds values (i + 3))
+
+    abbrev e : Item
+    e = item-of k (constant-read text s c .word) (s .rows) (s .words)
+
+    -- THE LAW of what is declared
+    pub specified-scope : declare text (specification-at kinds values i) s
+        ≡ record { entries = record { name = text (i + 1); meaning = meant (by-sort (e .sort) (e .row) (e .word) (e .size)) } ∷ s .entries; rows = s .rows + e .rows; names = s .names + 1; words = s .words + e .words }
+    unfolding item-of
+    specified-scope = rw (word-by c) (by (eqb k kind.var) (eqb k kind.array))
+      where
+        w : ℕ
+        w = constant-word text s c
+
+        it : Bool → Bool → Item
+        it a b =
+            pick a (record { sort = 1; row = s .rows; word = s .words; size = 1; rows = 1; words = 1 })
+            (pick b (record { sort = 2; row = s .rows; word = s .words; size = w; rows = 1; words = w }) (record { sort = 3; row = 0; word = w; size = 0; rows = 0; words = 0 }))
+
+        by : (a b : Bool) → declare text (pick a (grammar.var (i + 1)) (pick b (grammar.array (i + 1) c) (val (i + 1) c))) s
+            ≡ record { entries = record { name = text (i + 1); meaning = meant (by-sort (it a b .sort) (it a b .row) (it a b .word) (it a b .size)) } ∷ s .entries; rows = s .rows + it a b .rows; names = s .names + 1; words = s .words + it a b .words }
+        by true b = refl
+        by false true = refl
+        by false false = refl
+
+    pub specified-rows : (ds : List tree.Declaration) → declared-rows (declared text (specification-at kinds values i) s ds) (s .words) ≡ item-row e ++ declared-rows ds (s .words + e .words)
+    unfolding item-of declared-rows
+    specified-rows ds = rw (word-by c) (by (eqb k kind.var) (eqb k kind.array))
+      where
+        w : ℕ
+        w = constant-word text s c
+
+        it : Bool → Bool → Item
+        it a b =
+            pick a (record { sort = 1; row = s .rows; word = s .words; size = 1; rows = 1; words = 1 })
+            (pick b (record { sort = 2; row = s .rows; word = s .words; size = w; rows = 1; words = w }) (record { sort = 3; row = 0; word = w; size = 0; rows = 0; words = 0 }))
+
+        by : (a b : Bool) → declared-rows (declared text (pick a (grammar.var (i + 1)) (pick b (grammar.array (i + 1) c) (val (i + 1) c))) s ds) (s .words) ≡ item-row (it a b) ++ declared-rows ds (s .words + it a b .words)
+        by true b = refl
+        by false true = refl
+        by false false = rw (add-zero (s .words))
+
+pub width-small : (k : ℕ) → (1 ≤ width k) × (width k ≤ 6)
+width-small k = by (eqb k kind.var) (eqb k kind.array)
+  where
+    by : (a b : Bool) → (1 ≤ pick a 3 (pick b 6 5)) × (pick a 3 (pick b 6 5) ≤ 6)
+    by true b = (omega arith, omega arith)
+    by false true = (omega arith, omega arith)
+    by false false = (omega arith, omega arith)

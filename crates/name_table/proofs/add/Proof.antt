@@ -1,0 +1,31 @@
+-- `name_table::add` meets its contract. Each way through the code makes the same choices as the definition.
+-- Assumes nothing.
+use Rattle.name_table.specs.View.{view-more}
+use mathlib.Core.Path.{refl}
+use borrow.Author.Needs.{needs}
+use Rattle.name_table.proofs.add.Statement.{statement}
+use Rattle.name_table.proofs.add.Tie as tie
+
+pub add-spec : {M : Type 1} → statement M
+add-spec =
+    tie.close
+    (tie.spec
+    (λ c. search needs)
+    (λ c. search needs)
+    (λ c. search needs)
+    (λ c. search needs)
+    (λ c. search needs)
+    (λ c. search needs)
+    (λ c. search needs)
+    (λ c. search needs)
+    (λ c. search needs)
+    (λ c. search needs)
+    (λ c. search needs)
+    (λ c. search needs)
+    (λ c. search needs)
+    (λ c. search needs)
+    (λ c. search needs)
+    (λ c. search needs)
+    (λ c. search needs)
+    (λ c. search needs)
+    (λ c. λ source. view-more source _ (c .args .k) (c .args .p) (c .args .n) (c .args .row) (c .args .sort) (c .args .word) (c .args .size) (record { places = c .pre .0; lengths = c .pre .1 .0; rows = c .pre .1 .1 .0; sorts = c .pre .1 .1 .1 .0; words = c .pre .1 .1 .1 .1 .0; sizes = c .pre .1 .1 .1 .1 .1 })))

@@ -1,0 +1,14 @@
+-- `name_table::number` meets its contract. Each way through the code makes the same choices as the definition.
+-- Assumes nothing.
+use mathlib.Core.Path.{sym}
+use lib.ListN.{List·getD-eq-default}
+use borrow.Author.Needs.{needs}
+use Rattle.name_table.proofs.number.Statement.{statement}
+use Rattle.name_table.proofs.number.Tie as tie
+
+pub number-spec : {M : Type 1} → statement M
+number-spec = tie.close (tie.spec
+    (λ c. search needs)
+    (λ c. search needs)
+    (λ c. search needs)
+    (λ c. sym (List·getD-eq-default (c .before .args .s .now) 0 (c .if1 .left))))

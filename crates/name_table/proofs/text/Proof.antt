@@ -1,0 +1,33 @@
+-- `name_table::text` meets its contract. Each way through the code makes the same choices as the definition.
+-- Assumes nothing.
+use mathlib.Core.Path.{_≡_}
+use Prim.Native.Nat.{_+_, _-_, _≤_}
+use lib.ListN.{length}
+use lib.Seq.{take-all, take-nil}
+use native.Mathlib.Omega.{arith}
+use mathlib.Core.Path.{sym, ap, _∙_}
+use mathlib.Core.List.{List}
+use Prim.Native.Nat.{ℕ}
+use lib.ListN.{take, drop, drop-of-length-le, length-drop}
+use borrow.Author.Needs.{needs}
+use Rattle.name_table.proofs.text.Statement.{statement}
+use Rattle.name_table.proofs.text.Tie as tie
+
+pub text-spec : {M : Type 1} → statement M
+text-spec =
+    tie.close
+    (tie.spec
+    (λ c. search needs)
+    (λ c. search needs)
+    (λ c. search needs)
+    (λ c. rw (drop-of-length-le (c .before .before .args .source .now) (c .before .if1 .taken)) (sym (take-nil (c .before .before .args .n))))
+    (λ c. search needs)
+    (λ c. search needs)
+    (λ c. search needs)
+    (λ c. search needs)
+    (λ c. search needs)
+    (λ c. let q : c .before .before .before .args .p + c .before .before .before .args .n - c .before .before .before .args .p ≡ c .before .before .before .args .n = omega arith in ap (λ (k : ℕ). take k (drop (c .before .before .before .args .p) (c .before .before .before .args .source .now))) q)
+    (λ c. search needs)
+    (λ c. search needs)
+    (λ c. search needs)
+    (λ c. let d = length-drop (c .before .before .before .args .p) (c .before .before .before .args .source .now) in let r = drop (c .before .before .before .args .p) (c .before .before .before .args .source .now) in take-all (length (c .before .before .before .args .source .now) - c .before .before .before .args .p) r (omega arith) ∙ sym (take-all (c .before .before .before .args .n) r (omega arith))))

@@ -1,0 +1,30 @@
+-- `resolution::complaint` meets its contract, by the laws of specs/. Assumes nothing.
+use Rattle.word.specs.Tests.{tests}
+use Rattle.resolution.specs.Walk.{complaint}
+use borrow.Author.Needs.{needs}
+use Rattle.resolution.proofs.complaint.Statement.{statement}
+use Rattle.resolution.proofs.complaint.Tie as tie
+
+-- src/lib.rt:112:9
+-- src/lib.rt:114:9
+-- src/lib.rt:116:9
+-- src/lib.rt:118:9
+-- src/lib.rt:108:1
+-- src/lib.rt:108:1
+-- src/lib.rt:108:1
+-- src/lib.rt:108:1
+-- src/lib.rt:108:1
+
+pub complaint-spec : {M : Type 1} → statement M
+complaint-spec =
+    tie.close
+    (tie.spec
+    (λ c κs. search needs)
+    (λ c κs. search needs)
+    (λ c κs. search needs)
+    (λ c κs. search needs)
+    (λ c. unfold complaint in search tests depth 20)
+    (λ c. unfold complaint in search tests depth 20)
+    (λ c. unfold complaint in search tests depth 20)
+    (λ c. unfold complaint in search tests depth 20)
+    (λ c. unfold complaint in search tests depth 20))

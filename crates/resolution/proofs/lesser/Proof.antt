@@ -1,0 +1,21 @@
+-- `resolution::lesser` meets its contract, by the laws of specs/. Assumes nothing.
+use native.Mathlib.Omega.{arith}
+use Rattle.resolution.specs.Walk.{lesser-first, lesser-second, lesser-place, lesser-number, lesser-later, lesser-greater}
+use Rattle.resolution.proofs.lesser.Statement.{statement}
+use Rattle.resolution.proofs.lesser.Tie as tie
+
+-- src/lib.rt:29:9
+-- src/lib.rt:32:9
+-- src/lib.rt:35:9
+-- src/lib.rt:39:13
+-- src/lib.rt:25:1
+-- src/lib.rt:25:1
+
+pub lesser-spec : {M : Type 1} → statement M
+lesser-spec = tie.close (tie.spec
+    (λ c. let x = c .before .before .args in lesser-first (x .a .number) (x .a .place) (x .b .number) (x .b .place) (omega arith))
+    (λ c. let x = c .before .before .before .before .args in lesser-second (x .a .number) (x .a .place) (x .b .number) (x .b .place) (omega arith) (omega arith))
+    (λ c. let x = c .before .before .before .before .before .before .before .args in lesser-place (x .a .number) (x .a .place) (x .b .number) (x .b .place) (omega arith) (omega arith) (omega arith))
+    (λ c. let x = c .before .before .before .before .before .before .before .before .before .before .before .before .before .args in lesser-number (x .a .number) (x .a .place) (x .b .number) (x .b .place) (omega arith) (omega arith) (omega arith) (omega arith))
+    (λ c. let x = c .before .before .before .before .before .before .before .before .before .before .before .before .before .args in lesser-greater (x .a .number) (x .a .place) (x .b .number) (x .b .place) (omega arith) (omega arith) (omega arith) (omega arith))
+    (λ c. let x = c .before .before .before .before .before .before .before .before .before .before .args in lesser-later (x .a .number) (x .a .place) (x .b .number) (x .b .place) (omega arith) (omega arith) (omega arith) (omega arith)))

@@ -1,0 +1,14 @@
+-- `resolution::names_one` meets its contract, by the laws of specs/. Assumes nothing.
+use Rattle.word.specs.Tests.{tests}
+use Rattle.resolution.proofs.names_one.Statement.{statement}
+use Rattle.resolution.proofs.names_one.Tie as tie
+
+-- src/lib.rt:125:1
+-- src/lib.rt:125:1
+-- src/lib.rt:125:1
+
+pub names-one-spec : {M : Type 1} → statement M
+names-one-spec = tie.close (tie.spec
+    (λ c. search tests depth 20)
+    (λ c. search tests depth 20)
+    (λ c. search tests depth 20))

@@ -1,0 +1,43 @@
+-- `resolution::resolve_row` meets its contract, by the laws of specs/. Assumes nothing.
+use mathlib.Core.Path.{_≡_, refl, sym, ap, _∙_}
+use mathlib.Core.List.{List}
+use Prim.Native.Nat.{ℕ, _*_}
+use lib.Seq.{sets}
+use Rattle.program.specs.Rows.{row}
+use Rattle.name_table.specs.View.{meant}
+use Rattle.resolution.specs.Walk.{row-constant, row-value, row-named, row-plain}
+use borrow.Author.Needs.{needs}
+use Rattle.resolution.proofs.resolve_row.Statement.{statement}
+use Rattle.resolution.proofs.resolve_row.Tie as tie
+
+-- src/lib.rt:151:12
+-- src/lib.rt:152:30
+-- src/lib.rt:152:13
+-- src/lib.rt:154:30
+-- src/lib.rt:154:13
+-- src/lib.rt:156:15
+-- src/lib.rt:157:26
+-- src/lib.rt:157:9
+-- src/lib.rt:159:9
+-- src/lib.rt:146:1
+-- src/lib.rt:146:1
+-- src/lib.rt:146:1
+-- src/lib.rt:146:1
+
+pub resolve-row-spec : {M : Type 1} → statement M
+resolve-row-spec =
+    tie.close
+    (tie.spec
+    (λ c κs. search needs)
+    (λ c κs. search needs)
+    (λ c κs. search needs)
+    (λ c κs. search needs)
+    (λ c κs. search needs)
+    (λ c κs. search needs)
+    (λ c κs. search needs)
+    (λ c κs. search needs)
+    (λ c κs. search needs)
+    (λ c. let x = c .before .before .before .before .before .before .args in c .put .ensures ∙ ap (sets (x .table .now) (4 * x .r)) (ap (λ (w : ℕ). row 3 w 0 0) (c .before .word-of .ensures) ∙ row-constant (x .k) (meant (x .m)) (x .a) (x .b) (x .c) (c .before .before .before .before .before .if1 .taken) (sym (c .before .before .before .before .sort-of .ensures) ∙ c .before .before .before .if2 .taken)))
+    (λ c. let x = c .before .before .before .before .before .before .args in c .put2 .ensures ∙ ap (sets (x .table .now) (4 * x .r)) (ap (λ (w : ℕ). row 4 w 0 0) (c .before .row-of .ensures) ∙ row-value (x .k) (meant (x .m)) (x .a) (x .b) (x .c) (c .before .before .before .before .before .if1 .taken) (λ e. c .before .before .before .if2 .left (c .before .before .before .before .sort-of .ensures ∙ e))))
+    (λ c. let x = c .before .before .before .before .before .before .args in c .put3 .ensures ∙ ap (sets (x .table .now) (4 * x .r)) (ap (λ (w : ℕ). row (x .k) w (x .b) (x .c)) (c .before .row-of2 .ensures) ∙ row-named (x .k) (meant (x .m)) (x .a) (x .b) (x .c) (c .before .before .before .before .before .if1 .left) (sym (c .before .before .before .before .names-one .ensures) ∙ c .before .before .before .if3 .taken)))
+    (λ c. let x = c .before .before .before .before .before .args in c .put4 .ensures ∙ ap (sets (x .table .now) (4 * x .r)) (row-plain (x .k) (meant (x .m)) (x .a) (x .b) (x .c) (c .before .before .before .before .if1 .left) (sym (c .before .before .before .names-one .ensures) ∙ c .before .before .if3 .left))))

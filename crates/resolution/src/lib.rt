@@ -1,0 +1,251 @@
+// Resolves the raw rows in place, and keeps the least complaint about the names in them.
+ghost use mathlib.Core.Path.{_≡_};
+ghost use Prim.Native.Nat.{ℕ, _+_, _-_, _*_, _<_, _≤_};
+ghost use lib.ListN.{length, getD};
+ghost use lib.Seq.{sets};
+ghost use Rattle.name_table.specs.View.{meant, view, arrays};
+ghost use Rattle.names.specs.RowComplaints.{«lesser-of»};
+ghost use Rattle.names.specs.ResolvedRows;
+ghost use Rattle.names.specs.Complaints;
+ghost use Rattle.resolution.specs.Walk.{verdict, walk, walked, «text-at», «place-at», «scope-of»};
+ghost use Rattle.resolution.specs.Walk as spec;
+use expressions::put;
+use name_table::Meaning;
+use name_table::number;
+use name_table::stands_for;
+use name_table::wide;
+
+// The least complaint so far: its number, 0 for none, and its place.
+pub struct Found {
+    pub number: u32,
+    pub place: u32,
+}
+
+// The lesser of two: by place, then by number.
+fn lesser(a: Found, b: Found) -> Found
+    ensures { λ r. ⌜ verdict r ≡ «lesser-of» (verdict a) (verdict b) ⌝ }
+{
+    if a.number == 0 {
+        return b;
+    }
+    if b.number == 0 {
+        return a;
+    }
+    if a.place < b.place {
+        return a;
+    }
+    if a.place == b.place {
+        if a.number <= b.number {
+            return a;
+        }
+    }
+    b
+}
+
+// What a name stands for, by sort: 0 nothing, 1 a variable, 2 an array, 3 a val.
+fn sort_of(m: Meaning) -> u32
+    ensures { λ r. ⌜ r ≡ spec.«sort-of» (meant m) ⌝ }
+{
+    match m {
+        Meaning::Unknown => 0,
+        Meaning::Variable(_, _) => 1,
+        Meaning::Array(_, _, _) => 2,
+        Meaning::Constant(_) => 3,
+    }
+}
+
+// The row that declares what a name stands for.
+fn row_of(m: Meaning) -> u32
+    ensures { λ r. ⌜ r ≡ ResolvedRows.«declared-row» (meant m) ⌝ }
+{
+    match m {
+        Meaning::Unknown => 0,
+        Meaning::Variable(row, _) => row,
+        Meaning::Array(row, _, _) => row,
+        Meaning::Constant(_) => 0,
+    }
+}
+
+// A val's word.
+fn word_of(m: Meaning) -> u32
+    ensures { λ r. ⌜ r ≡ spec.«word-of» (meant m) ⌝ }
+{
+    match m {
+        Meaning::Unknown => 0,
+        Meaning::Variable(_, _) => 0,
+        Meaning::Array(_, _, _) => 0,
+        Meaning::Constant(w) => w,
+    }
+}
+
+// 8 for a name that is not declared, 10 for one of the sort `wrong`, else 0.
+fn unless(sort: u32, wrong: u32) -> u32
+    ensures { λ r. ⌜ r ≡ spec.unless sort wrong ⌝ }
+{
+    if sort == 0 {
+        8
+    } else if sort == wrong {
+        10
+    } else {
+        0
+    }
+}
+
+// 8 for a name that is not declared, 0 for one of the sort `right`, else 10.
+fn only(sort: u32, right: u32) -> u32
+    ensures { λ r. ⌜ r ≡ spec.only sort right ⌝ }
+{
+    if sort == 0 {
+        8
+    } else if sort == right {
+        0
+    } else {
+        10
+    }
+}
+
+// What a name of this sort deserves in a row of this kind: 8, 10, or 0 for nothing.
+fn complaint(kind: u32, sort: u32) -> u32
+    ensures { λ r. ⌜ r ≡ spec.complaint kind sort ⌝ }
+{
+    if kind == 4 {
+        unless(sort, 2)
+    } else if kind == 10 {
+        only(sort, 1)
+    } else if kind == 5 {
+        only(sort, 2)
+    } else if kind == 11 {
+        only(sort, 2)
+    } else {
+        0
+    }
+}
+
+// The kinds whose field a is a name, but for 4.
+fn names_one(kind: u32) -> bool
+    ensures { λ r. ⌜ r ≡ ResolvedRows.«names-one» kind ⌝ }
+{
+    if kind == 5 {
+        true
+    } else if kind == 10 {
+        true
+    } else {
+        kind == 11
+    }
+}
+
+// A word of the table.
+fn field(table: &[u32; 4096], i: usize) -> u32
+    requires { ⌜ i < 4096 ⌝ }
+    ensures { λ r. ⌜ r ≡ getD (now (table .entry)) i 0 ⌝ }
+{
+    table[i]
+}
+
+// Row r, which is (k, a, b, c) and whose name stands for m, is resolved.
+fn resolve_row(table: &mut [u32; 4096], r: usize, m: Meaning, k: u32, a: u32, b: u32, c: u32)
+    requires { ⌜ r < 1024 ⌝ }
+    ensures { λ _. ⌜ now (table .exit) ≡ sets (now (table .entry)) (4 * r) (spec.«row-by» k (meant m) a b c) ⌝ }
+{
+    if k == 4 {
+        if sort_of(m) == 3 {
+            put(table, r, 3, word_of(m), 0, 0);
+        } else {
+            put(table, r, 4, row_of(m), 0, 0);
+        }
+    } else if names_one(k) {
+        put(table, r, k, row_of(m), b, c);
+    } else {
+        put(table, r, k, a, b, c);
+    }
+}
+
+// Rows `first` up to `end` of the table are resolved; the least complaint about their names.
+fn walk_rows(
+    source: &[u8],
+    places: &[u32],
+    lengths: &[u32],
+    name_places: &[u32],
+    name_lengths: &[u32],
+    rows: &[u32],
+    sorts: &[u32],
+    words: &[u32],
+    sizes: &[u32],
+    count: usize,
+    table: &mut [u32; 4096],
+    first: usize,
+    end: usize,
+) -> Found
+    requires { ⌜ end ≤ 1024 ⌝ }
+    ensures { λ r. ⌜ walked (now (table .exit)) (verdict r) ≡ walk («text-at» (now (source .entry)) (now (places .entry)) (now (lengths .entry))) («place-at» (now (places .entry))) («scope-of» (view (now (source .entry)) (arrays (now («name_places» .entry)) (now («name_lengths» .entry)) (now (rows .entry)) (now (sorts .entry)) (now (words .entry)) (now (sizes .entry))) count)) (end - first) (now (table .entry)) first Complaints.fine ⌝ }
+{
+    let mut least = Found {
+        number: 0,
+        place: 0,
+    };
+    let mut r = first;
+    while r < end {
+        let k = field(table, 4 * r);
+        let a = field(table, 4 * r + 1);
+        let b = field(table, 4 * r + 2);
+        let c = field(table, 4 * r + 3);
+        let p = number(places, wide(a));
+        let n = number(lengths, wide(a));
+        let m = stands_for(
+            source,
+            name_places,
+            name_lengths,
+            rows,
+            sorts,
+            words,
+            sizes,
+            count,
+            p,
+            n,
+        );
+        let here = Found {
+            number: complaint(k, sort_of(m)),
+            place: p,
+        };
+        least = lesser(least, here);
+        resolve_row(table, r, m, k, a, b, c);
+        r += 1;
+    }
+    least
+}
+
+// The same, with the name table's arrays.
+pub fn resolve(
+    source: &[u8],
+    places: &[u32],
+    lengths: &[u32],
+    name_places: &[u32; 256],
+    name_lengths: &[u32; 256],
+    rows: &[u32; 256],
+    sorts: &[u32; 256],
+    words: &[u32; 256],
+    sizes: &[u32; 256],
+    count: usize,
+    table: &mut [u32; 4096],
+    first: usize,
+    end: usize,
+) -> Found
+    requires { ⌜ end ≤ 1024 ⌝ }
+    ensures { λ r. ⌜ walked (now (table .exit)) (verdict r) ≡ walk («text-at» (now (source .entry)) (now (places .entry)) (now (lengths .entry))) («place-at» (now (places .entry))) («scope-of» (view (now (source .entry)) (arrays (now («name_places» .entry)) (now («name_lengths» .entry)) (now (rows .entry)) (now (sorts .entry)) (now (words .entry)) (now (sizes .entry))) count)) (end - first) (now (table .entry)) first Complaints.fine ⌝ }
+{
+    walk_rows(
+        source,
+        places,
+        lengths,
+        name_places,
+        name_lengths,
+        rows,
+        sorts,
+        words,
+        sizes,
+        count,
+        table,
+        first,
+        end,
+    )
+}
