@@ -1,0 +1,43 @@
+-- `analysis::analyse` meets its contract, by the laws of specs/. Assumes nothing.
+use native.Mathlib.Omega.{arith}
+use mathlib.Core.Path.{sym, ap, subst, _∙_}
+use Prim.Native.Nat.{_≤_}
+use Rattle.token.specs.Tokens.{answer, Few}
+use Rattle.token.specs.declared.Scanned.{Scanned}
+use Rattle.front.specs.Front.{Outcome}
+use Rattle.analysis.specs.Analysed.{Analysed}
+use Rattle.analysis.specs.Arrays.{short-source}
+use Rattle.analysis.specs.Tokened.{scan-refused, small-place, short-table, short-code, with-room}
+use borrow.Author.Needs.{needs}
+use Rattle.analysis.proofs.analyse.Statement.{statement}
+use Rattle.analysis.proofs.analyse.Tie as tie
+
+-- src/lib.rt:167:9
+-- src/lib.rt:169:26
+-- src/lib.rt:169:70
+-- src/lib.rt:170:23
+-- src/lib.rt:171:30
+-- src/lib.rt:172:17
+-- src/lib.rt:174:29
+-- src/lib.rt:174:29
+-- src/lib.rt:175:17
+-- src/lib.rt:177:13
+-- src/lib.rt:155:1
+-- src/lib.rt:155:1
+
+pub analyse-spec : {M : Type 1} → statement M
+analyse-spec =
+    tie.close
+    (tie.spec
+    (λ c κs. search needs)
+    (λ c. search needs)
+    (λ c. let a = c .before .before .before .before .before .before .before .before .args in omega (arith, small-place (a .source .now) (a .table-words) (a .code-bytes) (c .before .s .given .0 .0) (c .before .s .given .0 .1 .0) (c .before .before .before .tokens .ensures .0 ∙ ap (λ (r : Scanned). answer r (c .before .before .before .tokens .last .1 .0) (c .before .before .before .tokens .last .1 .1 .0) (c .before .before .before .tokens .last .1 .1 .1 .0)) (c .before .s .given .1))))
+    (λ c. search needs)
+    (λ c. let f = subst Few (c .before .s2 .given .1) (c .before .before .before .tokens .ensures .1) in omega (arith, f))
+    (λ c. let a = c .before .before .before .before .before .before .before .before .before .args in short-table (a .source .now) (a .table-words) (a .code-bytes) (c .before .before .before .before .tokens .last .1 .0) (c .before .before .before .before .tokens .last .1 .1 .0) (c .before .before .before .before .tokens .last .1 .1 .1 .0) (c .before .before .s2 .given .0 .0) (c .before .before .before .before .tokens .ensures .0 ∙ ap (λ (r : Scanned). answer r (c .before .before .before .before .tokens .last .1 .0) (c .before .before .before .before .tokens .last .1 .1 .0) (c .before .before .before .before .tokens .last .1 .1 .1 .0)) (c .before .before .s2 .given .1)) (c .if1 .taken))
+    (λ c. let f = subst Few (c .before .before .s2 .given .1) (c .before .before .before .before .tokens .ensures .1) in omega (arith, f))
+    (λ c. let f = subst Few (c .before .before .s2 .given .1) (c .before .before .before .before .tokens .ensures .1) in omega (arith, f))
+    (λ c. let a = c .before .before .before .before .before .before .before .before .before .before .args in short-code (a .source .now) (a .table-words) (a .code-bytes) (c .before .before .before .before .before .tokens .last .1 .0) (c .before .before .before .before .before .tokens .last .1 .1 .0) (c .before .before .before .before .before .tokens .last .1 .1 .1 .0) (c .before .before .before .s2 .given .0 .0) (c .before .before .before .before .before .tokens .ensures .0 ∙ ap (λ (r : Scanned). answer r (c .before .before .before .before .before .tokens .last .1 .0) (c .before .before .before .before .before .tokens .last .1 .1 .0) (c .before .before .before .before .before .tokens .last .1 .1 .1 .0)) (c .before .before .before .s2 .given .1)) (c .before .if1 .left) (c .if2 .taken))
+    (λ c κs. let a = c .before .before .before .before .before .before .before .before .before .before .before .before .before .before .args in (short-source (a .source .now) _ (c .before .before .before .before .before .before .before .before .before .tokens .ensures .0 ∙ ap (λ (r : Scanned). answer r (c .before .before .before .before .before .before .before .before .before .tokens .last .1 .0) (c .before .before .before .before .before .before .before .before .before .tokens .last .1 .1 .0) (c .before .before .before .before .before .before .before .before .before .tokens .last .1 .1 .1 .0)) (c .before .before .before .before .before .before .before .s2 .given .1)), (subst Few (c .before .before .before .before .before .before .before .s2 .given .1) (c .before .before .before .before .before .before .before .before .before .tokens .ensures .1), c .before .before .before .before .before .before .before .before .before .before .before .before .before .before .pre)))
+    (λ c. let a = c .before .before .before .before .before .before .before .before .args in scan-refused (a .source .now) (a .table-words) (a .code-bytes) (c .before .s .given .0 .0) (c .before .s .given .0 .1 .0) (c .before .before .before .tokens .ensures .0 ∙ ap (λ (r : Scanned). answer r (c .before .before .before .tokens .last .1 .0) (c .before .before .before .tokens .last .1 .1 .0) (c .before .before .before .tokens .last .1 .1 .1 .0)) (c .before .s .given .1)))
+    (λ c. let a = c .before .before .before .before .before .before .before .before .before .before .before .before .before .before .before .args in subst (λ (x : Outcome). Analysed x (c .parse-arrays .last .1 .1 .1 .1 .1 .0) (c .parse-arrays .result)) (sym (with-room (a .source .now) (a .table-words) (a .code-bytes) (c .before .before .before .before .before .before .before .before .before .before .tokens .last .1 .0) (c .before .before .before .before .before .before .before .before .before .before .tokens .last .1 .1 .0) (c .before .before .before .before .before .before .before .before .before .before .tokens .last .1 .1 .1 .0) (c .before .before .before .before .before .before .before .before .s2 .given .0 .0) (c .before .before .before .before .before .before .before .before .before .before .tokens .ensures .0 ∙ ap (λ (r : Scanned). answer r (c .before .before .before .before .before .before .before .before .before .before .tokens .last .1 .0) (c .before .before .before .before .before .before .before .before .before .before .tokens .last .1 .1 .0) (c .before .before .before .before .before .before .before .before .before .before .tokens .last .1 .1 .1 .0)) (c .before .before .before .before .before .before .before .before .s2 .given .1)) (c .before .before .before .before .before .before .if1 .left) (c .before .before .before .before .before .if2 .left))) (c .parse-arrays .ensures (c .before .before .before .before .before .before .before .before .before .before .tokens .ensures .0 ∙ ap (λ (r : Scanned). answer r (c .before .before .before .before .before .before .before .before .before .before .tokens .last .1 .0) (c .before .before .before .before .before .before .before .before .before .before .tokens .last .1 .1 .0) (c .before .before .before .before .before .before .before .before .before .before .tokens .last .1 .1 .1 .0)) (c .before .before .before .before .before .before .before .before .s2 .given .1)))))

@@ -1,0 +1,28 @@
+-- `analysis::parse_first` meets its contract, by the laws of specs/. Assumes nothing.
+use native.Mathlib.Omega.{arith}
+use mathlib.Core.Path.{_≡_, sym, ap, subst, _∙_}
+use mathlib.Core.List.{List}
+use Prim.Native.Nat.{ℕ, _≤_}
+use lib.ListN.{length, take}
+use lib.Seq.{length-take-le}
+use Rattle.token.specs.Tokens.{Entry, entries}
+use Rattle.analysis.specs.Analysed.{Parses}
+use Rattle.analysis.specs.Arrays.{entries-take}
+use Rattle.analysis.proofs.parse_first.Statement.{statement}
+use Rattle.analysis.proofs.parse_first.Tie as tie
+
+-- src/lib.rt:135:19
+-- src/lib.rt:135:32
+-- src/lib.rt:135:46
+-- src/lib.rt:135:5
+-- src/lib.rt:124:1
+
+pub parse-first-spec : {M : Type 1} → statement M
+parse-first-spec =
+    tie.close
+    (tie.spec
+    (λ c. let a = c .before .before .before .before .before .args in sym (length-take-le (a .n) (a .kinds .now) (omega (arith, c .before .before .before .before .before .pre .1 .0, c .before .before .before .before .before .pre .1 .1 .0))))
+    (λ c. let a = c .before .before .before .before .before .before .args in sym (length-take-le (a .n) (a .places .now) (omega (arith, c .before .before .before .before .before .before .pre .1 .0, c .before .before .before .before .before .before .pre .1 .1 .1 .0))))
+    (λ c. let a = c .before .before .before .before .before .before .before .args in sym (length-take-le (a .n) (a .values .now) (omega (arith, c .before .before .before .before .before .before .before .pre .1 .0, c .before .before .before .before .before .before .before .pre .1 .1 .1 .1 .0))))
+    (λ c κs. let a = c .before .before .before .before .before .before .before .before .args in (c .before .before .before .before .before .before .before .before .pre .0, (omega (arith, length-take-le (a .n) (a .kinds .now) (omega (arith, c .before .before .before .before .before .before .before .before .pre .1 .0, c .before .before .before .before .before .before .before .before .pre .1 .1 .0)), c .before .before .before .before .before .before .before .before .pre .1 .0), ((length-take-le (a .n) (a .places .now) (omega (arith, c .before .before .before .before .before .before .before .before .pre .1 .0, c .before .before .before .before .before .before .before .before .pre .1 .1 .1 .0))) ∙ sym (length-take-le (a .n) (a .kinds .now) (omega (arith, c .before .before .before .before .before .before .before .before .pre .1 .0, c .before .before .before .before .before .before .before .before .pre .1 .1 .0))), ((length-take-le (a .n) (a .values .now) (omega (arith, c .before .before .before .before .before .before .before .before .pre .1 .0, c .before .before .before .before .before .before .before .before .pre .1 .1 .1 .1 .0))) ∙ sym (length-take-le (a .n) (a .kinds .now) (omega (arith, c .before .before .before .before .before .before .before .before .pre .1 .0, c .before .before .before .before .before .before .before .before .pre .1 .1 .0))), c .before .before .before .before .before .before .before .before .pre .1 .1 .1 .1 .1)))))
+    (λ c. let a = c .before .before .before .before .before .before .before .before .before .args in subst (λ (es : List Entry). Parses (a .source .now) es (c .parse .last .1 .1 .1 .1 .0) (c .parse .result)) (ap (entries (take (a .n) (a .kinds .now)) (take (a .n) (a .places .now)) (take (a .n) (a .values .now)) 0) (length-take-le (a .n) (a .kinds .now) (omega (arith, c .before .before .before .before .before .before .before .before .before .pre .1 .0, c .before .before .before .before .before .before .before .before .before .pre .1 .1 .0))) ∙ entries-take (a .n) (a .kinds .now) (a .places .now) (a .values .now) (a .n) 0 (omega arith)) (c .parse .ensures)))

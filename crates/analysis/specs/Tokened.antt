@@ -1,0 +1,38 @@
+-- What the token arrays say of the source: 1 to 5, 13, 14, or what its tokens come to. Laws; assumes nothing.
+use mathlib.Core.Path.{_≡_, refl, sym, ap, subst, _∙_}
+use mathlib.Core.List.{List}
+use Prim.Native.Nat.{ℕ, _+_, _*_, _≤_, _<_}
+use native.Mathlib.Omega.{arith}
+use lib.ListN.{length}
+use borrow.Author.Tests.{lt-ltb, le-ltb}
+use Rattle.token.specs.Tokens as token
+use Rattle.token.specs.Tokens.{Entry, outcome, entries}
+use Rattle.token.specs.SourceLaws as source-laws
+use Rattle.grammar.specs.Automaton.{reads}
+use Rattle.front.specs.Front.{refused, symbols, parsed, tokened, front}
+use Rattle.analysis.specs.Arrays.{length-entries}
+
+module _ (source : List ℕ) (table code : ℕ) where
+  -- 1 to 5
+  pub scan-refused : (k p : ℕ) → outcome source ≡ token.refused k p → front source table code ≡ refused k p
+  unfolding front
+  scan-refused k p h = ap (tokened source table code) h
+
+  pub small-place : (k p : ℕ) → outcome source ≡ token.refused k p → p ≤ 16384
+  small-place k p h = subst (source-laws.Sound (length source) 0) h (source-laws.outcome-sound source) .3
+
+  module _ (ks ps vs : List ℕ) (n : ℕ) (h : outcome source ≡ token.read (entries ks ps vs 0 n)) where
+    abbrev ts : List Entry
+    ts = entries ks ps vs 0 n
+
+    pub short-table : table < 4 * n → front source table code ≡ refused 13 0
+    unfolding front
+    short-table l = ap (tokened source table code) h ∙ rw (length-entries ks ps vs n 0, lt-ltb table (4 * n) l)
+
+    pub short-code : 4 * n ≤ table → code < 48 * n + 256 → front source table code ≡ refused 14 0
+    unfolding front
+    short-code g l = ap (tokened source table code) h ∙ rw (length-entries ks ps vs n 0, le-ltb table (4 * n) g, lt-ltb code (48 * n + 256) l)
+
+    pub with-room : 4 * n ≤ table → 48 * n + 256 ≤ code → front source table code ≡ parsed source ts (reads (symbols ts 0))
+    unfolding front
+    with-room g l = ap (tokened source table code) h ∙ rw (length-entries ks ps vs n 0, le-ltb table (4 * n) g, le-ltb code (48 * n + 256) l)

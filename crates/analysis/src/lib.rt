@@ -1,0 +1,182 @@
+// The front end: tokens, grammar, depth and names, in document 01's order.
+use binding::Progress;
+use binding::bind;
+use name_table::number;
+use reader::Answer;
+use reader::program;
+use resolution::resolve;
+use token::Scanned;
+use token::tokens;
+ghost use mathlib.Core.Path.{_≡_};
+ghost use Prim.Native.Nat.{_≤_};
+ghost use lib.Dec.{ltb};
+ghost use lib.ListN.{length, getD};
+ghost use Rattle.word.specs.Choice.{pick};
+ghost use Rattle.token.specs.Tokens as scanned;
+ghost use Rattle.grammar.specs.Grammar as grammar;
+ghost use Rattle.front.specs.Front.{front};
+ghost use Rattle.analysis.specs.Analysed.{Analysed, Parses};
+ghost use Rattle.analysis.specs.Named.{Ready, «named-as»};
+
+// A refusal's number and place, or the number of tokens, of rows, of data words and N.
+pub enum Analysis {
+    Refused(u32, u32),
+    Accepted(usize, usize, u32, usize),
+}
+
+// The names of a program whose raw rows stand in the table: `start` is the process's first token.
+fn names(
+    source: &[u8],
+    kinds: &[u8],
+    places: &[u32],
+    values: &[u32],
+    table: &mut [u32; 4096],
+    start: usize,
+    rows: usize,
+    depth: usize,
+) -> Analysis
+    requires { ⌜ (start ≤ 1024) × (rows ≤ 1024) ⌝ }
+    ensures { λ r. ⌜ ((p : grammar.Program) → Ready (now (source .entry)) (now (kinds .entry)) (now (places .entry)) (now (values .entry)) p start rows depth (now (table .entry)) → Analysed («named-as» (now (source .entry)) (now (kinds .entry)) (now (places .entry)) (now (values .entry)) p) (now (table .exit)) r) ⌝ }
+{
+    let mut name_places: [u32; 256] = [0; 256];
+    let mut name_lengths: [u32; 256] = [0; 256];
+    let mut name_rows: [u32; 256] = [0; 256];
+    let mut sorts: [u32; 256] = [0; 256];
+    let mut words: [u32; 256] = [0; 256];
+    let mut sizes: [u32; 256] = [0; 256];
+    let b = bind(
+        source,
+        kinds,
+        places,
+        values,
+        &mut name_places,
+        &mut name_lengths,
+        &mut name_rows,
+        &mut sorts,
+        &mut words,
+        &mut sizes,
+        table,
+        start,
+    );
+    match b {
+        Progress::Refused(number, place) => Analysis::Refused(number, place),
+        Progress::Declared(count, made, used) => {
+            let f = resolve(
+                source,
+                places,
+                values,
+                &name_places,
+                &name_lengths,
+                &name_rows,
+                &sorts,
+                &words,
+                &sizes,
+                count,
+                table,
+                made,
+                rows,
+            );
+            if f.number == 0 {
+                Analysis::Accepted(kinds.len(), rows, used, depth)
+            } else {
+                Analysis::Refused(f.number, f.place)
+            }
+        }
+    }
+}
+
+// Where token i stands, or the end.
+fn place_of(places: &[u32], i: usize, end: u32) -> u32
+    ensures { λ r. ⌜ r ≡ pick (ltb i (length (now (places .entry)))) (getD (now (places .entry)) i 0) end ⌝ }
+{
+    if i < places.len() {
+        number(places, i)
+    } else {
+        end
+    }
+}
+
+// The tokens are read, the depth is tested, the names are resolved.
+fn parse(
+    source: &[u8],
+    kinds: &[u8],
+    places: &[u32],
+    values: &[u32],
+    table: &mut [u32; 4096],
+) -> Analysis
+    requires { ⌜ (length (now source) ≤ 16384) × ((length (now kinds) ≤ 1024) × ((length (now places) ≡ length (now kinds)) × ((length (now values) ≡ length (now kinds)) × (length (now table) ≡ 4096)))) ⌝ }
+    ensures { λ r. ⌜ Parses (now (source .entry)) (scanned.entries (now (kinds .entry)) (now (places .entry)) (now (values .entry)) 0 (length (now (kinds .entry)))) (now (table .exit)) r ⌝ }
+{
+    let a = program(kinds, values, table);
+    match a {
+        Answer::Refused(i) => { Analysis::Refused(6, place_of(places, i, source.len() as u32)) }
+        Answer::Program(start, rows, depth, deepest) => {
+            if 32 < depth {
+                return Analysis::Refused(7, 0);
+            }
+            if 32 < deepest {
+                return Analysis::Refused(7, 0);
+            }
+            names(source, kinds, places, values, table, start, rows, deepest)
+        }
+    }
+}
+
+// The same for the first n tokens of the arrays.
+fn parse_first(
+    source: &[u8],
+    kinds: &[u8],
+    places: &[u32],
+    values: &[u32],
+    n: usize,
+    table: &mut [u32; 4096],
+) -> Analysis
+    requires { ⌜ (length (now source) ≤ 16384) × ((n ≤ 1024) × ((length (now kinds) ≡ 1024) × ((length (now places) ≡ 1024) × ((length (now values) ≡ 1024) × (length (now table) ≡ 4096))))) ⌝ }
+    ensures { λ r. ⌜ Parses (now (source .entry)) (scanned.entries (now (kinds .entry)) (now (places .entry)) (now (values .entry)) 0 n) (now (table .exit)) r ⌝ }
+{
+    parse(source, &kinds[..n], &places[..n], &values[..n], table)
+}
+
+// The same for the token arrays as they are.
+fn parse_arrays(
+    source: &[u8],
+    kinds: &[u8; 1024],
+    places: &[u32; 1024],
+    values: &[u32; 1024],
+    n: usize,
+    table: &mut [u32; 4096],
+) -> Analysis
+    requires { ⌜ (length (now source) ≤ 16384) × ((n ≤ 1024) × (length (now table) ≡ 4096)) ⌝ }
+    ensures { λ r. ⌜ Parses (now (source .entry)) (scanned.entries (now (kinds .entry)) (now (places .entry)) (now (values .entry)) 0 n) (now (table .exit)) r ⌝ }
+{
+    parse_first(source, kinds, places, values, n, table)
+}
+
+// What a source comes to, with a table of so many words and a code buffer of so many bytes; accepted, its rows are in `table`.
+// Required is the array's length, as its type says it: a proof is not told of it otherwise.
+pub fn analyse(
+    source: &[u8],
+    table_words: usize,
+    code_bytes: usize,
+    table: &mut [u32; 4096],
+) -> Analysis
+    requires { ⌜ length (now table) ≡ 4096 ⌝ }
+    ensures { λ r. ⌜ Analysed (front (now (source .entry)) «table_words» «code_bytes») (now (table .exit)) r ⌝ }
+{
+    let mut kinds: [u8; 1024] = [0; 1024];
+    let mut places: [u32; 1024] = [0; 1024];
+    let mut values: [u32; 1024] = [0; 1024];
+    let s = tokens(source, &mut kinds, &mut places, &mut values);
+    match s {
+        Scanned::Refused(number, place) => Analysis::Refused(number, place as u32),
+        Scanned::Read(n) => {
+            if table_words < 4 * n {
+                return Analysis::Refused(13, 0);
+            }
+            if code_bytes < 48 * n + 256 {
+                return Analysis::Refused(14, 0);
+            }
+            parse_arrays(source, &kinds, &places, &values, n, table)
+        }
+    }
+}

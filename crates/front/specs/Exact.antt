@@ -1,0 +1,111 @@
+-- With room a source is accepted exactly if it is X, and what is accepted is a sound program. Statements (IsX) and laws; assumes nothing.
+use mathlib.Core.Path.{_≡_, refl, sym, ap, ap₂, subst, _∙_}
+use mathlib.Core.Bool.{Bool, true, false}
+use mathlib.Core.List.{List, [], _∷_}
+use Prim.Native.Nat.{ℕ, zero, suc, _+_, _*_, _≤_, _<_, max}
+use native.Mathlib.Omega.{arith}
+use lib.Dec.{ltb, eqb}
+use lib.ListN.{length}
+use borrow.Author.Tests.{ltb-true, ltb-false, le-ltb, lt-ltb, eqb-true}
+use Rattle.word.specs.Choice.{pick}
+use Rattle.token.specs.Kinds as kind
+use Rattle.token.specs.Tokens as token
+use Rattle.token.specs.Tokens.{Entry}
+use Rattle.grammar.specs.Grammar as grammar
+use Rattle.grammar.specs.Grammar.{text-program, well-formed}
+use Rattle.grammar.specs.Automaton as automaton
+use Rattle.grammar.specs.Automaton.{reads}
+use Rattle.grammar.specs.Exact.{accepts, accepted-text, First, refused-first}
+use Rattle.grammar.specs.Depth.{depth, deepest}
+use Rattle.program.specs.Tree.{Program}
+use Rattle.names.specs.Complaints as names
+use Rattle.names.specs.Complaints.{Complaint, complaints, least, lesser}
+use Rattle.names.specs.Resolve.{resolve}
+use Rattle.front.specs.Front.{Outcome, refused, accepted, place-of, text-of, symbols, unread-place, judged, named, parsed, tokened, front}
+
+-- a source that is X: it has tokens, they are the text of a program, within the depth, and nothing is wrong with its names
+pub record IsX (source : List ℕ) (ts : List Entry) (p : grammar.Program) : Type 0 where
+  pub tokens : token.outcome source ≡ token.read ts
+  pub proper : well-formed p
+  pub grammatical : symbols ts 0 ≡ text-program p
+  pub shallow : max (depth p) (deepest p) ≤ 32
+  pub nameable : complaints (text-of source ts) (place-of ts) p ≡ []
+
+-- room for so many tokens
+pub record Room (tokens table code : ℕ) : Type 0 where
+  pub rows : 4 * tokens ≤ table
+  pub image : 48 * tokens + 256 ≤ code
+
+-- X is accepted
+pub accepts-X : (source : List ℕ) (ts : List Entry) (p : grammar.Program) (table code : ℕ) → IsX source ts p → Room (length ts) table code
+    → front source table code ≡ accepted (length ts) (resolve (text-of source ts) p)
+unfolding front named least
+accepts-X source ts p table code x r =
+    ap (tokened source table code) (x .tokens)
+    ∙ rw (le-ltb table (4 * length ts) (r .rows), le-ltb code (48 * length ts + 256) (r .image))
+    (ap (parsed source ts) (ap reads (x .grammatical) ∙ accepts p (x .proper))
+    ∙ rw (le-ltb 32 (max (depth p) (deepest p)) (x .shallow), x .nameable))
+
+-- what was accepted
+pub record Accepted (source : List ℕ) (table code n : ℕ) (q : Program) : Type 0 where
+  pub ts : List Entry
+  pub tree : grammar.Program
+  pub is-X : IsX source ts tree
+  pub room : Room (length ts) table code
+  pub count : n ≡ length ts
+  pub program : q ≡ resolve (text-of source ts) tree
+
+not-accepted : {A : Type 0} (k l n : ℕ) (q : Program) → refused k l ≡ accepted n q → A
+not-accepted k l n q h = let z : _≡_ {A = ℕ} 0 1 = cc in absurd (omega arith)
+
+pub no-complaint : (cs : List Complaint) → least cs ≡ names.fine → cs ≡ []
+unfolding least
+no-complaint [] h = refl
+no-complaint (c ∷ cs) h = by (least cs) h
+  where
+    choice : (b : Bool) (d : Complaint) → pick b (names.refused c) (names.refused d) ≡ names.fine → c ∷ cs ≡ []
+    choice true d h = let z : _≡_ {A = ℕ} 0 1 = cc in absurd (omega arith)
+    choice false d h = let z : _≡_ {A = ℕ} 0 1 = cc in absurd (omega arith)
+
+    by : (v : names.Verdict) → lesser c v ≡ names.fine → c ∷ cs ≡ []
+    by names.fine h = let z : _≡_ {A = ℕ} 0 1 = cc in absurd (omega arith)
+    by (names.refused d) h = choice (names.earlier c d) d h
+
+-- accepted is X
+pub accepted-is-X : (source : List ℕ) (table code n : ℕ) (q : Program) → front source table code ≡ accepted n q → Accepted source table code n q
+unfolding front named
+accepted-is-X source table code n q h = by-tokens (token.outcome source) refl h
+  where
+    by-verdict : (ts : List Entry) (p : grammar.Program) → token.outcome source ≡ token.read ts → Room (length ts) table code → reads (symbols ts 0) ≡ automaton.accepted p → max (depth p) (deepest p) ≤ 32
+        → (v : names.Verdict) → least (complaints (text-of source ts) (place-of ts) p) ≡ v → judged v (length ts) (resolve (text-of source ts) p) ≡ accepted n q → Accepted source table code n q
+    by-verdict ts p e r g d (names.refused c) k h = not-accepted _ _ n q h
+    by-verdict ts p e r g d names.fine k h =
+        let t = accepted-text (symbols ts 0) p g in
+        record {
+          ts = ts;
+          tree = p;
+          room = r;
+          is-X = record { tokens = e; proper = t .1; grammatical = t .0; shallow = d; nameable = no-complaint _ k };
+          count = cc;
+          program = cc;
+        }
+
+    by-depth : (ts : List Entry) (p : grammar.Program) → token.outcome source ≡ token.read ts → Room (length ts) table code → reads (symbols ts 0) ≡ automaton.accepted p
+        → (b : Bool) → ltb 32 (max (depth p) (deepest p)) ≡ b → pick b (refused 7 0) (judged (least (complaints (text-of source ts) (place-of ts) p)) (length ts) (resolve (text-of source ts) p)) ≡ accepted n q → Accepted source table code n q
+    by-depth ts p e r g true d h = not-accepted _ _ n q h
+    by-depth ts p e r g false d h = by-verdict ts p e r g (ltb-false 32 (max (depth p) (deepest p)) d) (least (complaints (text-of source ts) (place-of ts) p)) refl h
+
+    by-reading : (ts : List Entry) → token.outcome source ≡ token.read ts → Room (length ts) table code → (v : automaton.Reading) → reads (symbols ts 0) ≡ v → parsed source ts v ≡ accepted n q → Accepted source table code n q
+    by-reading ts e r (automaton.accepted p) g h = by-depth ts p e r g (ltb 32 (max (depth p) (deepest p))) refl h
+    by-reading ts e r (automaton.refused u) g h = not-accepted _ _ n q h
+
+    by-room : (ts : List Entry) → token.outcome source ≡ token.read ts → (a : Bool) → ltb table (4 * length ts) ≡ a → (b : Bool) → ltb code (48 * length ts + 256) ≡ b
+        → pick a (refused 13 0) (pick b (refused 14 0) (parsed source ts (reads (symbols ts 0)))) ≡ accepted n q → Accepted source table code n q
+    by-room ts e true f b g h = not-accepted _ _ n q h
+    by-room ts e false f true g h = not-accepted _ _ n q h
+    by-room ts e false f false g h =
+        by-reading ts e (record { rows = ltb-false table (4 * length ts) f; image = ltb-false code (48 * length ts + 256) g }) (reads (symbols ts 0)) refl h
+
+    by-tokens : (o : token.Outcome) → token.outcome source ≡ o → tokened source table code o ≡ accepted n q → Accepted source table code n q
+    by-tokens (token.refused k l) e h = not-accepted _ _ n q h
+    by-tokens (token.read ts) e h = by-room ts e (ltb table (4 * length ts)) refl (ltb code (48 * length ts + 256)) refl h

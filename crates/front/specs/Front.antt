@@ -1,0 +1,78 @@
+-- What a source comes to: the resolved program, or one refusal, in document 01's order. Definitions; rests on tokens, grammar and names.
+use mathlib.Core.Bool.{Bool, true, false}
+use mathlib.Core.List.{List, [], _∷_}
+use Prim.Native.Nat.{ℕ, zero, suc, _+_, _*_, max}
+use lib.Dec.{ltb, leb}
+use lib.ListN.{length, take, drop}
+use Rattle.word.specs.Choice.{pick}
+use Rattle.token.specs.Tokens as token
+use Rattle.token.specs.Tokens.{Entry}
+use Rattle.grammar.specs.Grammar as grammar
+use Rattle.grammar.specs.Tokens.{token-of}
+use Rattle.grammar.specs.Automaton as automaton
+use Rattle.grammar.specs.Automaton.{reads}
+use Rattle.grammar.specs.Depth.{depth, deepest}
+use Rattle.program.specs.Tree.{Program}
+use Rattle.names.specs.Complaints as names
+use Rattle.names.specs.Complaints.{complaints, least}
+use Rattle.names.specs.Resolve.{resolve}
+
+-- a source is refused, by number and place, or accepted, with its number of tokens and its program
+pub data Outcome : Type 0 where
+  refused : ℕ → ℕ → Outcome
+  accepted : ℕ → Program → Outcome
+
+-- ── tokens as the grammar and the names see them ──
+
+-- the token with number t; past the last one an empty one
+unfoldable pub entry-at : List Entry → ℕ → Entry
+entry-at [] t = record { kind = 0; place = 0; value = 0 }
+entry-at (e ∷ es) zero = e
+entry-at (e ∷ es) (suc t) = entry-at es t
+
+-- where token t stands, and its bytes: a name token's value is its length
+abbrev pub place-of : List Entry → ℕ → ℕ
+place-of ts t = entry-at ts t .place
+
+abbrev pub text-of : List ℕ → List Entry → ℕ → List ℕ
+text-of source ts t = take (entry-at ts t .value) (drop (entry-at ts t .place) source)
+
+-- the grammar's tokens, the first with number i
+unfoldable pub symbols : List Entry → ℕ → List grammar.Token
+symbols [] i = []
+symbols (e ∷ es) i = token-of i (e .kind) (e .value) ∷ symbols es (suc i)
+
+-- refusal 6: "it, or the source length": the place of the token that so many stand unread from, itself included
+unfoldable pub unread-place : List Entry → ℕ → ℕ → ℕ
+unread-place [] unread end = end
+unread-place (e ∷ es) unread end = pick (leb (length (e ∷ es)) unread) (e .place) (unread-place es unread end)
+
+-- ── the order: "1 comes first; then 2 to 5 ...; then 13, 14, 6, 7; then 8 to 12" ──
+
+-- 8 to 12, else accepted
+abbrev pub judged : names.Verdict → ℕ → Program → Outcome
+judged (names.refused c) n p = refused (c .number) (c .place)
+judged names.fine n p = accepted n p
+
+-- "7 depth of an expression, assigned element or process above 32", place 0
+unfoldable pub named : List ℕ → List Entry → grammar.Program → Outcome
+named source ts p =
+    pick (ltb 32 (max (depth p) (deepest p))) (refused 7 0)
+    (judged (least (complaints (text-of source ts) (place-of ts) p)) (length ts) (resolve (text-of source ts) p))
+
+-- "6 grammar: first token that no program continues with"
+abbrev pub parsed : List ℕ → List Entry → automaton.Reading → Outcome
+parsed source ts (automaton.accepted p) = named source ts p
+parsed source ts (automaton.refused unread) = refused 6 (unread-place ts (length unread) (length source))
+
+-- "13 table shorter than 4 x tokens words"; "14 code buffer shorter than 48 x tokens + 256 bytes": places 0
+abbrev pub tokened : List ℕ → ℕ → ℕ → token.Outcome → Outcome
+tokened source table code (token.refused n p) = refused n p
+tokened source table code (token.read ts) =
+    pick (ltb table (4 * length ts)) (refused 13 0)
+    (pick (ltb code (48 * length ts + 256)) (refused 14 0)
+    (parsed source ts (reads (symbols ts 0))))
+
+-- a source, with a table of so many words and a code buffer of so many bytes
+unfoldable pub front : List ℕ → ℕ → ℕ → Outcome
+front source table code = tokened source table code (token.outcome source)

@@ -1,0 +1,5 @@
+-- The front end as a whole: from source bytes to a resolved program, or the refusal.
+pub mod Front
+pub mod Exact
+pub mod Refused
+pub mod Count

@@ -1,0 +1,135 @@
+-- What a refusal says: 6 stands at the first token that no program continues with; 8 to 12 are the least complaint. Laws; assumes nothing.
+use mathlib.Core.Path.{_≡_, refl, sym, ap, subst, _∙_}
+use mathlib.Core.Bool.{Bool, true, false}
+use mathlib.Core.List.{List, [], _∷_}
+use Prim.Native.Nat.{ℕ, zero, suc, _+_, _*_, _≤_, _<_, max}
+use native.Mathlib.Omega.{arith}
+use lib.Dec.{ltb, eqb}
+use lib.ListN.{length}
+use borrow.Author.Tests.{ltb-true, ltb-false, le-ltb, lt-ltb, eqb-true, eqb-false}
+use Rattle.word.specs.Choice.{pick}
+use Rattle.token.specs.Kinds as kind
+use Rattle.token.specs.Tokens as token
+use Rattle.token.specs.Tokens.{Entry}
+use Rattle.token.specs.SourceLaws as source-laws
+use Rattle.token.specs.SourceLaws.{Lies, Placed, outcome-sound}
+use Rattle.grammar.specs.Grammar as grammar
+use Rattle.grammar.specs.Grammar.{Token, number, name, mark, text-program}
+use Rattle.grammar.specs.Tokens.{token-of}
+use Rattle.grammar.specs.Automaton as automaton
+use Rattle.grammar.specs.Automaton.{reads}
+use Rattle.grammar.specs.Exact.{First, refused-first}
+use Rattle.grammar.specs.Depth.{depth, deepest}
+use Rattle.program.specs.Tree.{Program}
+use Rattle.program.specs.Sound.{Sound}
+use Rattle.names.specs.Complaints as names
+use Rattle.names.specs.Complaints.{complaints, least}
+use Rattle.names.specs.First.{first}
+use Rattle.names.specs.Order.{names-of, Ahead, Ascending, least-is-first}
+use Rattle.names.specs.Accepted.{Words, sound}
+use Rattle.names.specs.Depths.{same-deepest}
+use Rattle.names.specs.Resolve.{resolve}
+use Rattle.front.specs.Front.{Outcome, refused, accepted, entry-at, place-of, text-of, symbols, unread-place, judged, named, parsed, tokened, front}
+use Rattle.front.specs.Exact.{IsX, Room, Accepted, accepted-is-X}
+
+-- the tokens of a source stand in it, one after another
+placed : (source : List ℕ) (ts : List Entry) → token.outcome source ≡ token.read ts → Placed (length source) 0 ts
+placed source ts e = subst (source-laws.Sound (length source) 0) e (outcome-sound source)
+
+-- ── constants are words ──
+
+token-words : (i k v : ℕ) (w : List Token) → (k ≡ kind.number → v < 4294967296) → Words w → Words (token-of i k v ∷ w)
+token-words i k v w h r = by (eqb k kind.number) refl (eqb k kind.name)
+  where
+    by : (a : Bool) → eqb k kind.number ≡ a → (b : Bool) → Words (pick a (number v) (pick b (name i) (mark k)) ∷ w)
+    by true e b = (h (eqb-true k kind.number e), r)
+    by false e true = r
+    by false e false = r
+
+symbol-words : (size p : ℕ) (ts : List Entry) (i : ℕ) → Placed size p ts → Words (symbols ts i)
+unfolding symbols
+symbol-words size p ts i source-laws.none = tt
+symbol-words size p _ i (source-laws.some t {ts = ts} l h q) = token-words i (t .kind) (t .value) (symbols ts (suc i)) (h .number) (symbol-words size (t .place + 1) ts (suc i) q)
+
+-- what is accepted is a sound program
+pub accepted-sound : (source : List ℕ) (table code n : ℕ) (q : Program) → front source table code ≡ accepted n q → Sound q
+accepted-sound source table code n q h =
+    let a = accepted-is-X source table code n q h in
+    let x = a .is-X in
+    let w : Words (text-program (a .tree)) = rw (x .grammatical) at (symbol-words (length source) 0 (a .ts) 0 (placed source (a .ts) (x .tokens))) in
+    let d = same-deepest (text-of source (a .ts)) (place-of (a .ts)) (a .tree) (x .nameable) in
+    rw (a .program) (sound (text-of source (a .ts)) (place-of (a .ts)) (a .tree) w (x .nameable) (omega (arith, x .shallow)))
+
+-- ── the least complaint is the first ──
+
+-- tokens from the k-th of all on: their places, looked up in all
+module _ (place : ℕ → ℕ) where
+  -- every token of a list, numbered from i, stands where it is looked up
+  abbrev Found : ℕ → List Entry → Type 0
+  Found i [] = Unit {0}
+  Found i (t ∷ ts) = (place i ≡ t .place) × Found (suc i) ts
+
+  -- a token's name, if it is one, before those that follow
+  ahead-one : (n i k v : ℕ) (w : List Token) → place n < place i → Ahead (λ t. []) place n (names-of w) → Ahead (λ t. []) place n (names-of (token-of i k v ∷ w))
+  ahead-one n i k v w h rest = by (eqb k kind.number) (eqb k kind.name)
+    where
+      by : (a c : Bool) → Ahead (λ t. []) place n (names-of (pick a (number v) (pick c (name i) (mark k)) ∷ w))
+      by true c = rest
+      by false true = (h, rest)
+      by false false = rest
+
+  ascends-one : (i k v : ℕ) (w : List Token) → Ahead (λ t. []) place i (names-of w) → Ascending (λ t. []) place (names-of w) → Ascending (λ t. []) place (names-of (token-of i k v ∷ w))
+  ascends-one i k v w h rest = by (eqb k kind.number) (eqb k kind.name)
+    where
+      by : (a c : Bool) → Ascending (λ t. []) place (names-of (pick a (number v) (pick c (name i) (mark k)) ∷ w))
+      by true c = rest
+      by false true = (h, rest)
+      by false false = rest
+
+  ahead : (size n i p : ℕ) (ts : List Entry) → place n < p → Placed size p ts → Found i ts → Ahead (λ t. []) place n (names-of (symbols ts i))
+  unfolding symbols
+  ahead size n i p ts l source-laws.none f = tt
+  ahead size n i p _ l (source-laws.some t {ts = ts} b h q) f =
+      ahead-one n i (t .kind) (t .value) (symbols ts (suc i)) (omega (arith, f .0)) (ahead size n (suc i) (t .place + 1) ts (omega arith) q (f .1))
+
+  ascends : (size i p : ℕ) (ts : List Entry) → Placed size p ts → Found i ts → Ascending (λ t. []) place (names-of (symbols ts i))
+  unfolding symbols
+  ascends size i p ts source-laws.none f = tt
+  ascends size i p _ (source-laws.some t {ts = ts} b h q) f =
+      ascends-one i (t .kind) (t .value) (symbols ts (suc i)) (ahead size i (suc i) (t .place + 1) ts (omega (arith, f .0)) q (f .1)) (ascends size (suc i) (t .place + 1) ts q (f .1))
+
+-- looked up in a list, its own tokens stand where they stand
+found-from : (all ts : List Entry) (i : ℕ) → ((k : ℕ) → entry-at all (i + k) ≡ entry-at ts k) → Found (place-of all) i ts
+unfolding entry-at
+found-from all [] i h = tt
+found-from all (t ∷ ts) i h =
+    let z : i + 0 ≡ i = omega arith in
+    (ap (λ (e : Entry). e .place) (rw z at (h 0)), found-from all ts (suc i) (λ k. let y : suc i + k ≡ i + suc k = omega arith in rw y (h (suc k))))
+
+found : (ts : List Entry) → Found (place-of ts) 0 ts
+found ts = found-from ts ts 0 (λ k. let z : 0 + k ≡ k = omega arith in rw z)
+
+-- where the front end asks the names, the least complaint is the first in the text
+pub least-first-in-text : (source : List ℕ) (ts : List Entry) (p : grammar.Program) → token.outcome source ≡ token.read ts → symbols ts 0 ≡ text-program p
+    → least (complaints (text-of source ts) (place-of ts) p) ≡ first (complaints (text-of source ts) (place-of ts) p)
+least-first-in-text source ts p e g =
+    least-is-first (text-of source ts) (place-of ts) p (rw g at (ascends (place-of ts) (length source) 0 0 ts (placed source ts e) (found ts)))
+
+-- ── refusal 6 ──
+
+-- where 6 is given: the tokens, those left unread, and the place; `First` says that they begin where no program continues
+pub record Ungrammatical (source : List ℕ) (at : ℕ) : Type 0 where
+  pub ts : List Entry
+  pub unread : List Token
+  pub tokens : token.outcome source ≡ token.read ts
+  pub first-bad : First (symbols ts 0) unread
+  pub place : at ≡ unread-place ts (length unread) (length source)
+
+-- with room, a source whose tokens are no program is refused by 6 at the first token that no program continues with
+pub refuses-6 : (source : List ℕ) (ts : List Entry) (u : List Token) (table code : ℕ) → token.outcome source ≡ token.read ts → Room (length ts) table code → reads (symbols ts 0) ≡ automaton.refused u
+    → (front source table code ≡ refused 6 (unread-place ts (length u) (length source))) × Ungrammatical source (unread-place ts (length u) (length source))
+unfolding front
+refuses-6 source ts u table code e r h = (
+  ap (tokened source table code) e ∙ rw (le-ltb table (4 * length ts) (r .rows), le-ltb code (48 * length ts + 256) (r .image)) (ap (parsed source ts) h),
+  record { ts = ts; unread = u; tokens = e; first-bad = refused-first (symbols ts 0) u h; place = refl },
+)
