@@ -1,0 +1,1 @@
+// The translation rules: see specs/.
