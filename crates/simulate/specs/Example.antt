@@ -1,0 +1,95 @@
+-- The premises can be met, and the definitions compute: document 01's `var x; x := 2 + 3`, and a loop over an array that ends by a bad subscript. Instances.
+use mathlib.Core.Path.{_≡_, refl}
+use mathlib.Core.List.{List, [], _∷_}
+use Prim.Native.Nat.{ℕ}
+use native.Mathlib.Omega.{arith}
+use lib.ListN.{length, replicate}
+use lib.Dec.{lit<, lit≤}
+use lib.Count.{trailingZeros, leadingZeros}
+use Rattle.word.specs.Word.{shift-left, shift-right, signed-less}
+use Rattle.word.specs.Access.{stored}
+use Rattle.thumb.specs.Code.{put, put-long, swap32, narrow, widen, encodeOf, decodeOf, find, table}
+use Rattle.thumb.specs.Bytes.{encoded-bytes}
+use Rattle.program.specs.Tree.{Program, Variable, var, array, data-words, array-word, constant, variable, diadic, plus, less, assign, assign-element, braces, loop, none, also}
+use Rattle.meaning.specs.Run.{moves, begin}
+use Rattle.rules.specs.Bytes.{bytes-of, bytes, size}
+use Rattle.rules.specs.Constant.{load-constant}
+use Rattle.rules.specs.Blocks.{push-constant, push-variable, check-subscript, less-than, work-diadic-code, assign-variable, store-element, take-condition, jump-over, jump-back}
+use Rattle.rules.specs.Code.{expression-code, repeat-code, process-code, image-code, image}
+use Rattle.exec.specs.State.{next, takes, result, jump, branch, link, freshOf}
+use Rattle.exec.specs.State as state
+use Rattle.exec.specs.Exec as exec
+use Rattle.exec.specs.Exec.{slotOf, executeOf}
+use Rattle.machine.specs.Step.{withSecond, fetchOf, onceOf, refusalOf, stepOf}
+use Rattle.machine.specs.Run.{runFrom, runOf}
+use Rattle.machine.specs.Start.{startRefusal, startOf}
+use Rattle.machine.specs.Trace.{listed}
+use Rattle.simulate.specs.Statement.{Sound, Lent, EndsBy, tried, trace-of, started, Demand3}
+use Rattle.simulate.specs.Theorem.{demand3}
+
+-- var x; x := 2 + 3
+five : Program
+five = record { declarations = var ∷ []; body = assign (record { row = 0; offset = 0 }) (diadic plus (constant 2) (constant 3)) }
+
+-- 13 needed words, and one more
+lent-words : List ℕ
+lent-words = 7 ∷ 1 ∷ 2 ∷ 3 ∷ 4 ∷ 5 ∷ 6 ∷ 7 ∷ 8 ∷ 9 ∷ 10 ∷ 11 ∷ 12 ∷ 99 ∷ []
+
+five-image : length (image five) ≡ 32
+unfolding five image image-code process-code expression-code push-constant work-diadic-code assign-variable load-constant trailingZeros leadingZeros bytes bytes-of encoded-bytes encodeOf put
+five-image = refl
+
+five-sound : Sound five
+unfolding five data-words array-word
+five-sound = record {
+  few-data = lit≤ tt;
+  shallow = lit≤ tt;
+  resolved = (record { inside = lit< tt; apart = refl }, (lit< tt, lit< tt));
+  short = rw five-image (lit≤ tt);
+}
+
+five-lent : Lent five lent-words
+unfolding five lent-words data-words
+five-lent = record { words = omega arith; enough = lit≤ tt; few = lit≤ tt }
+
+five-demand : Demand3 five lent-words
+five-demand = demand3 five five-sound lent-words five-lent
+
+-- it ends by SVC 0 with 5 in x
+five-ends : EndsBy five 0 (5 ∷ []) (runOf 100 (image five) lent-words (started five lent-words))
+unfolding five lent-words image image-code process-code expression-code push-constant work-diadic-code assign-variable load-constant trailingZeros leadingZeros bytes bytes-of encoded-bytes encodeOf put data-words startOf startRefusal refusalOf freshOf runOf runFrom onceOf fetchOf withSecond decodeOf find table executeOf exec.load exec.store slotOf result takes next state.moves
+five-ends = record { by-svc = refl; number = refl; same-words = refl }
+
+-- var i; array v[1]; while i < 2 do { v[i] := i; i := i + 1 }, from i = 0: one store, then a bad subscript
+counter : Variable
+counter = record { row = 0; offset = 0 }
+
+climb : Program
+climb = record {
+  declarations = var ∷ array 1 ∷ [];
+  body = loop (diadic less (variable counter) (constant 2))
+      (braces (also (assign-element (record { row = 1; offset = 1; length = 1 }) (variable counter) (variable counter)) (also (assign counter (diadic plus (variable counter) (constant 1))) none)));
+}
+
+-- 16 needed words, all 0
+abbrev zeros : List ℕ
+zeros = replicate 16 0
+
+-- the source's trace has the one store
+climb-access : moves 100 (begin climb zeros) .trace ≡ stored 1 0 0 ∷ []
+unfolding climb counter data-words signed-less
+climb-access = refl
+
+-- so has the machine's
+climb-trace : trace-of climb (tried 120 (image climb) zeros (started climb zeros)) ≡ stored 1 0 0 ∷ []
+unfolding climb counter image image-code process-code expression-code push-constant push-variable check-subscript store-element repeat-code take-condition jump-over jump-back less-than work-diadic-code assign-variable load-constant trailingZeros leadingZeros bytes bytes-of size encoded-bytes encodeOf put put-long narrow widen swap32 data-words array-word startOf startRefusal refusalOf freshOf tried stepOf onceOf fetchOf withSecond decodeOf find table executeOf exec.load exec.store slotOf result takes next branch jump link state.moves shift-left shift-right listed
+climb-trace = refl
+
+-- and it ends by SVC 2 with the source's words
+climb-words : moves 100 (begin climb zeros) .words ≡ 1 ∷ 0 ∷ []
+unfolding climb counter data-words signed-less
+climb-words = refl
+
+climb-ends : EndsBy climb 2 (1 ∷ 0 ∷ []) (runOf 120 (image climb) zeros (started climb zeros))
+unfolding climb counter image image-code process-code expression-code push-constant push-variable check-subscript store-element repeat-code take-condition jump-over jump-back less-than work-diadic-code assign-variable load-constant trailingZeros leadingZeros bytes bytes-of size encoded-bytes encodeOf put put-long narrow widen swap32 data-words startOf startRefusal refusalOf freshOf runOf runFrom onceOf fetchOf withSecond decodeOf find table executeOf exec.load exec.store slotOf result takes next branch jump link state.moves shift-left shift-right
+climb-ends = record { by-svc = refl; number = refl; same-words = refl }

@@ -1,0 +1,1 @@
+// The simulation: the image runs as the source does. See specs/.
