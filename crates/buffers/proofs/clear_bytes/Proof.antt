@@ -1,0 +1,63 @@
+-- The invariant: clearing from i on what is cleared so far gives what clearing from n on would.
+use native.Mathlib.Omega.{arith}
+use mathlib.Core.Path.{_≡_, refl, sym, ap, _∙_}
+use Prim.Native.Nat.{ℕ, _+_, _-_, _<_, _≤_}
+use lib.ListN.{length, length-set}
+use Rattle.buffers.specs.Buffers.{cleared, cleared-more, cleared-all}
+use Rattle.buffers.proofs.clear_bytes.Statement.{statement}
+use Rattle.buffers.proofs.clear_bytes.Tie as tie
+use Rattle.buffers.proofs.clear_bytes.Reads as reads
+use Rattle.buffers.proofs.clear_bytes.Lts as lts
+
+abbrev Inv-loop : tie.InvT-loop
+Inv-loop bytes₀ n i₀ bytes i = (i ≤ length bytes₀) × (length bytes ≡ length bytes₀) × (cleared bytes i (length bytes₀) ≡ cleared bytes₀ n (length bytes₀))
+
+abbrev μ-loop : tie.MeasureT-loop
+μ-loop bytes₀ n i₀ bytes i = length bytes₀ - i
+
+-- src/lib.rt:25:5
+loop-holds : tie.Need-loop-holds Inv-loop μ-loop
+loop-holds c = (omega arith, refl, refl)
+
+-- src/lib.rt:26:9
+slice-write-bytes : tie.Need-slice-write-bytes Inv-loop μ-loop
+slice-write-bytes c = omega arith
+
+-- src/lib.rt:27:9
+add-i : tie.Need-add-i Inv-loop μ-loop
+add-i c = omega arith
+
+-- src/lib.rt:25:5
+loop-less : tie.Need-loop-less Inv-loop μ-loop
+loop-less c = omega arith
+
+-- src/lib.rt:25:5
+loop-again : tie.Need-loop-again Inv-loop μ-loop
+loop-again c =
+    let v = c .before .loop .inv in
+    (omega arith, simp length-set (v .1), cleared-more (c .before .loop .bytes) (c .before .loop .i) _ (omega arith) (v .1) ∙ v .2)
+
+-- src/lib.rt:20:1
+same-length : tie.Need-same-length Inv-loop μ-loop
+same-length c = omega arith
+
+-- src/lib.rt:20:1
+returns : tie.Need-returns Inv-loop μ-loop
+unfolding cleared
+returns c =
+    let v = c .before .loop .inv in
+    sym (cleared-all (c .before .loop .bytes) (c .before .loop .i) _ (omega arith) (v .1)) ∙ v .2
+
+pub clear-bytes-spec : {M : Type 1} → statement M
+clear-bytes-spec =
+    tie.close
+    (tie.spec
+    Inv-loop
+    μ-loop
+    loop-holds
+    slice-write-bytes
+    add-i
+    loop-less
+    loop-again
+    same-length
+    returns)

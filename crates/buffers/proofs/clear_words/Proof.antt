@@ -1,0 +1,68 @@
+-- The invariant: clearing from i on what is cleared so far gives what clearing from n on would.
+use native.Mathlib.Omega.{arith}
+use mathlib.Core.Path.{_≡_, refl, sym, ap, _∙_}
+use Prim.Native.Nat.{ℕ, _+_, _-_, _<_, _≤_}
+use lib.ListN.{length, length-set}
+use Rattle.buffers.specs.Buffers.{cleared, cleared-more, cleared-all}
+use Rattle.buffers.proofs.clear_words.Statement.{statement}
+use Rattle.buffers.proofs.clear_words.Tie as tie
+use Rattle.buffers.proofs.clear_words.Reads as reads
+use Rattle.buffers.proofs.clear_words.Lts as lts
+
+abbrev Inv-loop : tie.InvT-loop
+Inv-loop words₀ n i₀ words i = (i ≤ length words₀) × (length words ≡ length words₀) × (cleared words i (length words₀) ≡ cleared words₀ n (length words₀))
+
+abbrev μ-loop : tie.MeasureT-loop
+μ-loop words₀ n i₀ words i = length words₀ - i
+
+-- src/lib.rt:13:5
+loop-holds : tie.Need-loop-holds Inv-loop μ-loop
+loop-holds c = (omega arith, refl, refl)
+
+-- src/lib.rt:14:9
+mul-words : tie.Need-mul-words Inv-loop μ-loop
+mul-words c = omega arith
+
+-- src/lib.rt:14:9
+slice-write-words : tie.Need-slice-write-words Inv-loop μ-loop
+slice-write-words c = omega arith
+
+-- src/lib.rt:15:9
+add-i : tie.Need-add-i Inv-loop μ-loop
+add-i c = omega arith
+
+-- src/lib.rt:13:5
+loop-less : tie.Need-loop-less Inv-loop μ-loop
+loop-less c = omega arith
+
+-- src/lib.rt:13:5
+loop-again : tie.Need-loop-again Inv-loop μ-loop
+loop-again c =
+    let v = c .before .loop .inv in
+    (omega arith, simp length-set (v .1), cleared-more (c .before .loop .words) (c .before .loop .i) _ (omega arith) (v .1) ∙ v .2)
+
+-- src/lib.rt:8:1
+same-length : tie.Need-same-length Inv-loop μ-loop
+same-length c = omega arith
+
+-- src/lib.rt:8:1
+returns : tie.Need-returns Inv-loop μ-loop
+unfolding cleared
+returns c =
+    let v = c .before .loop .inv in
+    sym (cleared-all (c .before .loop .words) (c .before .loop .i) _ (omega arith) (v .1)) ∙ v .2
+
+pub clear-words-spec : {M : Type 1} → statement M
+clear-words-spec =
+    tie.close
+    (tie.spec
+    Inv-loop
+    μ-loop
+    loop-holds
+    mul-words
+    slice-write-words
+    add-i
+    loop-less
+    loop-again
+    same-length
+    returns)

@@ -1,0 +1,2 @@
+-- Laws on buffers that are zeroed or copied word by word.
+pub mod Buffers

@@ -1,0 +1,18 @@
+-- `emit::assign_variable` meets its contract: there is room for each part (`first`, `rest`), and together they wrote the whole (`then`).
+-- Assumes nothing.
+use Rattle.emit.specs.Write.{first, rest, then}
+use Rattle.rules.specs.Blocks.{assign-variable}
+use borrow.Author.Needs.{needs}
+use Rattle.emit.proofs.assign_variable.Statement.{statement}
+use Rattle.emit.proofs.assign_variable.Tie as tie
+
+pub assign-variable-spec : {M : Type 1} → statement M
+assign-variable-spec =
+    tie.close
+    (tie.spec
+    (λ c κs. unfold assign-variable in first _ (c .before .before .pre .1))
+    (λ c. search needs)
+    (λ c κs. unfold assign-variable in first _ (rest (c .before .before .before .put-two .ensures) (c .before .before .before .before .before .before .pre .1)))
+    (λ c κs. unfold assign-variable in (rest (c .before .before .before .constant .ensures) (rest (c .before .before .before .before .before .before .before .put-two .ensures) (c .before .before .before .before .before .before .before .before .before .before .pre .1))))
+    (λ c. search needs)
+    (λ c. unfold assign-variable in then (c .before .before .before .before .before .before .before .before .before .before .put-two .ensures) (then (c .before .before .before .before .before .before .constant .ensures) (c .before .before .put .ensures))))

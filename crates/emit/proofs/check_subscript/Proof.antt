@@ -1,0 +1,17 @@
+-- `emit::check_subscript` meets its contract: there is room for each part (`first`, `rest`), and together they wrote the whole (`then`).
+-- Assumes nothing.
+use Rattle.emit.specs.Write.{first, rest, then}
+use Rattle.rules.specs.Blocks.{check-subscript}
+use borrow.Author.Needs.{needs}
+use Rattle.emit.proofs.check_subscript.Statement.{statement}
+use Rattle.emit.proofs.check_subscript.Tie as tie
+
+pub check-subscript-spec : {M : Type 1} → statement M
+check-subscript-spec =
+    tie.close
+    (tie.spec
+    (λ c κs. unfold check-subscript in first _ (c .before .before .pre))
+    (λ c κs. unfold check-subscript in first _ (rest (c .before .before .before .put-four .ensures) (c .before .before .before .before .before .before .pre)))
+    (λ c κs. unfold check-subscript in (rest (c .before .before .before .constant .ensures) (rest (c .before .before .before .before .before .before .before .put-four .ensures) (c .before .before .before .before .before .before .before .before .before .before .pre))))
+    (λ c. search needs)
+    (λ c. unfold check-subscript in then (c .before .before .before .before .before .before .before .before .before .before .put-four .ensures) (then (c .before .before .before .before .before .before .constant .ensures) (c .before .before .put-four2 .ensures))))

@@ -1,0 +1,34 @@
+-- `emit::constant` meets its contract, by the loader's three cases; that the span's byte and count fit their fields is `span-byte` and `trailing-lt`.
+-- Assumes nothing.
+use native.Mathlib.Omega.{arith}
+use lib.Count.{leading-le, trailing-le}
+use Rattle.rules.specs.Laws.{constant-byte, constant-span, constant-long}
+use Rattle.rules.specs.Bits.{trailing-lt, span-byte}
+use Rattle.emit.specs.Write.{first, rest, then}
+use borrow.Author.Needs.{needs}
+use Rattle.emit.proofs.constant.Statement.{statement}
+use Rattle.emit.proofs.constant.Tie as tie
+
+pub constant-spec : {M : Type 1} → statement M
+constant-spec =
+    tie.close
+    (tie.spec
+    (λ c. search needs)
+    (λ c κs. rw (constant-byte _ _ (c .before .if1 .taken)) at (c .before .before .before .pre))
+    (λ c. search needs)
+    (λ c. rw (constant-byte _ _ (c .before .before .before .before .if1 .taken)) (c .before .before .put .ensures))
+    (λ c. omega (arith, leading-le 32 (c .before .before .args .w), trailing-le 32 (c .before .before .args .w)))
+    (λ c. trailing-lt 32 (c .before .before .before .before .args .w) (omega arith) (omega arith))
+    (λ c. record { fits = span-byte (c .before .before .before .before .args .w) (omega arith) (omega arith) (c .before .if2 .taken) })
+    (λ c. omega (arith, trailing-le 32 (c .before .before .before .before .args .w)))
+    (λ c κs. rw (constant-span _ _ (c .before .before .if1 .left) (c .before .if2 .taken)) at (c .before .before .before .before .pre))
+    (λ c. search needs)
+    (λ c. rw (constant-span _ _ (c .before .before .before .before .before .if1 .left) (c .before .before .before .before .if2 .taken)) (c .before .before .put-two .ensures))
+    (λ c. search needs)
+    (λ c. search needs)
+    (λ c κs. first _ (rw (constant-long _ _ (c .before .before .if1 .left) (c .before .if2 .left)) at (c .before .before .before .before .pre)))
+    (λ c. search needs)
+    (λ c. search needs)
+    (λ c κs. rest (c .before .before .before .put-four .ensures) (rw (constant-long _ _ (c .before .before .before .before .before .before .if1 .left) (c .before .before .before .before .before .if2 .left)) at (c .before .before .before .before .before .before .before .before .pre)))
+    (λ c. search needs)
+    (λ c. rw (constant-long _ _ (c .before .before .before .before .before .before .before .before .before .if1 .left) (c .before .before .before .before .before .before .before .before .if2 .left)) (then (c .before .before .before .before .before .before .put-four .ensures) (c .before .before .put-three .ensures))))

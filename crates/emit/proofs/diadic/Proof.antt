@@ -1,0 +1,17 @@
+-- `emit::diadic` meets its contract: there is room for each part (`first`, `rest`), and together they wrote the whole (`then`).
+-- Assumes nothing.
+use Rattle.emit.specs.Write.{first, rest, then}
+use Rattle.rules.specs.Blocks.{work-diadic-code}
+use borrow.Author.Needs.{needs}
+use Rattle.emit.proofs.diadic.Statement.{statement}
+use Rattle.emit.proofs.diadic.Tie as tie
+
+pub diadic-spec : {M : Type 1} → statement M
+diadic-spec =
+    tie.close
+    (tie.spec
+    (λ c κs. unfold work-diadic-code in first _ (c .before .before .pre))
+    (λ c κs. unfold work-diadic-code in first _ (rest (c .before .before .before .put-three .ensures) (c .before .before .before .before .before .before .pre)))
+    (λ c κs. unfold work-diadic-code in (rest (c .before .before .before .diadic-instructions .ensures) (rest (c .before .before .before .before .before .before .before .put-three .ensures) (c .before .before .before .before .before .before .before .before .before .before .pre))))
+    (λ c. search needs)
+    (λ c. unfold work-diadic-code in then (c .before .before .before .before .before .before .before .before .before .before .put-three .ensures) (then (c .before .before .before .before .before .before .diadic-instructions .ensures) (c .before .before .put .ensures))))

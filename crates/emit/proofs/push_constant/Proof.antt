@@ -1,0 +1,16 @@
+-- `emit::push_constant` meets its contract: there is room for each part (`first`, `rest`), and together they wrote the whole (`then`).
+-- Assumes nothing.
+use Rattle.emit.specs.Write.{first, rest, then}
+use Rattle.rules.specs.Blocks.{push-constant}
+use borrow.Author.Needs.{needs}
+use Rattle.emit.proofs.push_constant.Statement.{statement}
+use Rattle.emit.proofs.push_constant.Tie as tie
+
+pub push-constant-spec : {M : Type 1} → statement M
+push-constant-spec =
+    tie.close (tie.spec
+    (λ c κs. unfold push-constant in first _ (c .before .before .pre))
+    (λ c κs. unfold push-constant in first _ (rest (c .before .before .before .put .ensures) (c .before .before .before .before .before .before .pre)))
+    (λ c κs. unfold push-constant in (rest (c .before .before .before .constant .ensures) (rest (c .before .before .before .before .before .before .before .put .ensures) (c .before .before .before .before .before .before .before .before .before .before .pre))))
+    (λ c. search needs)
+    (λ c. unfold push-constant in then (c .before .before .before .before .before .before .before .before .before .before .put .ensures) (then (c .before .before .before .before .before .before .constant .ensures) (c .before .before .put2 .ensures))))

@@ -1,0 +1,18 @@
+-- `emit::push_variable` meets its contract: there is room for each part (`first`, `rest`), and together they wrote the whole (`then`).
+-- Assumes nothing.
+use Rattle.emit.specs.Write.{first, rest, then}
+use Rattle.rules.specs.Blocks.{push-variable}
+use borrow.Author.Needs.{needs}
+use Rattle.emit.proofs.push_variable.Statement.{statement}
+use Rattle.emit.proofs.push_variable.Tie as tie
+
+pub push-variable-spec : {M : Type 1} → statement M
+push-variable-spec =
+    tie.close
+    (tie.spec
+    (λ c κs. unfold push-variable in first _ (c .before .before .pre .1))
+    (λ c. search needs)
+    (λ c κs. unfold push-variable in first _ (rest (c .before .before .before .put .ensures) (c .before .before .before .before .before .before .pre .1)))
+    (λ c κs. unfold push-variable in (rest (c .before .before .before .constant .ensures) (rest (c .before .before .before .before .before .before .before .put .ensures) (c .before .before .before .before .before .before .before .before .before .before .pre .1))))
+    (λ c. search needs)
+    (λ c. unfold push-variable in then (c .before .before .before .before .before .before .before .before .before .before .put .ensures) (then (c .before .before .before .before .before .before .constant .ensures) (c .before .before .put-two .ensures))))

@@ -1,0 +1,18 @@
+-- `emit::store_element` meets its contract: there is room for each part (`first`, `rest`), and together they wrote the whole (`then`).
+-- Assumes nothing.
+use Rattle.emit.specs.Write.{first, rest, then}
+use Rattle.rules.specs.Blocks.{store-element}
+use borrow.Author.Needs.{needs}
+use Rattle.emit.proofs.store_element.Statement.{statement}
+use Rattle.emit.proofs.store_element.Tie as tie
+
+pub store-element-spec : {M : Type 1} → statement M
+store-element-spec =
+    tie.close
+    (tie.spec
+    (λ c κs. unfold store-element in first _ (c .before .before .pre .1))
+    (λ c. search needs)
+    (λ c κs. unfold store-element in first _ (rest (c .before .before .before .put-four .ensures) (c .before .before .before .before .before .before .pre .1)))
+    (λ c κs. unfold store-element in (rest (c .before .before .before .constant .ensures) (rest (c .before .before .before .before .before .before .before .put-four .ensures) (c .before .before .before .before .before .before .before .before .before .before .pre .1))))
+    (λ c. search needs)
+    (λ c. unfold store-element in then (c .before .before .before .before .before .before .before .before .before .before .put-four .ensures) (then (c .before .before .before .before .before .before .constant .ensures) (c .before .before .put-two .ensures))))
