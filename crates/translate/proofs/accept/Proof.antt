@@ -1,0 +1,39 @@
+-- `translate::accept` meets its contract, by the laws of specs/. Assumes nothing.
+use native.Mathlib.Omega.{arith}
+use mathlib.Core.Path.{_≡_, sym, subst, _∙_}
+use Prim.Native.Nat.{ℕ, _-_, _*_, _<_, _≤_}
+use Rattle.program.specs.Rows.{table-of, row-count}
+use Rattle.program.specs.ReadBack.{length-table}
+use Rattle.program.specs.Table.{process-at}
+use Rattle.rules.specs.Code.{image-code}
+use Rattle.emit.specs.Write.{Room}
+use Rattle.generate.specs.Well.{WellProcess}
+use Rattle.generate.specs.Accepted.{well-table, image-room}
+use Rattle.translate.specs.Filled.{some-row, accepted-left}
+use borrow.Author.Needs.{needs}
+use Rattle.translate.proofs.accept.Statement.{statement}
+use Rattle.translate.proofs.accept.Tie as tie
+
+-- src/lib.rt:84:5
+-- src/lib.rt:85:9
+-- src/lib.rt:89:17
+-- src/lib.rt:90:15
+-- src/lib.rt:92:16
+-- src/lib.rt:93:15
+-- src/lib.rt:72:1
+-- src/lib.rt:72:1
+-- src/lib.rt:72:1
+
+pub accept-spec : {M : Type 1} → statement M
+accept-spec =
+    tie.close
+    (tie.spec
+    (λ c κs. search needs)
+    (λ c κs. let a = c .before .before .before .before .before .before .before .before .args in let q = c .before .before .before .before .before .before .before .before .pre .1 .0 in let p = c .before .before .before .before .before .before .before .before .pre .1 .1 in let e = sym (p .rows-are) in (subst (λ (k : ℕ). 0 < k) e (some-row q), (subst (λ (k : ℕ). WellProcess (a .rows .now) (k - 1)) e (well-table q (a .rows .now) (p .sound) (p .holds) (omega (arith, c .before .before .before .before .before .before .before .before .pre .0, p .fits .rows, p .fits .few))), subst (λ (k : ℕ). Room (a .code .now) 0 (image-code (process-at (a .rows .now) (k - 1)))) e (image-room q (a .rows .now) (p .sound) (p .holds) (p .fits .in-code) (omega (arith, p .fits .small))))))
+    (λ c. search needs)
+    (λ c. search needs)
+    (λ c. search needs)
+    (λ c. let a = c .before .before .before .before .before .before .before .before .before .before .before .args in let q = c .before .before .before .before .before .before .before .before .before .before .before .pre .1 .0 in let p = c .before .before .before .before .before .before .before .before .before .before .before .pre .1 .1 in let f = c .before .before .fill-code .ensures q (p .sound) (p .holds) (p .rows-are) (p .fits .in-code) in omega (arith, f .1, p .fits .small))
+    (λ c. search needs)
+    (λ c. search needs)
+    (λ c. let a = c .before .before .before .before .before .before .before .before .before .before .before .args in λ q p. let f = c .before .before .fill-code .ensures q (p .sound) (p .holds) (p .rows-are) (p .fits .in-code) in accepted-left _ _ (a .tokens) (a .count) (a .words) (a .depth) _ q _ _ (p .rows-are) (p .words-are) (p .depth-is) (f .1) (c .before .before .before .before .before .before .fill-table .ensures (table-of q) (length-table q ∙ omega (arith, p .rows-are)) (p .holds)) (f .0)))

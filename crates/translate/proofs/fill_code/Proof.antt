@@ -1,0 +1,22 @@
+-- `translate::fill_code` meets its contract, by the laws of specs/. Assumes nothing.
+use mathlib.Core.Path.{subst, _∙_}
+use Prim.Native.Nat.{ℕ, _-_}
+use Rattle.program.specs.Table.{process-at}
+use Rattle.rules.specs.Code.{image-code}
+use Rattle.emit.specs.Write.{Wrote}
+use Rattle.generate.specs.Accepted.{image-filled, image-written}
+use borrow.Author.Needs.{needs}
+use Rattle.translate.proofs.fill_code.Statement.{statement}
+use Rattle.translate.proofs.fill_code.Tie as tie
+
+-- src/lib.rt:66:9
+-- src/lib.rt:67:5
+-- src/lib.rt:62:1
+-- src/lib.rt:62:1
+
+pub fill-code-spec : {M : Type 1} → statement M
+fill-code-spec = tie.close (tie.spec
+    (λ c κs. search needs)
+    (λ c κs. search needs)
+    (λ c. search needs)
+    (λ c. let a = c .before .before .before .before .before .before .before .before .before .before .args in λ q s h e l. let w = subst (λ (k : ℕ). Wrote (a .code .now) 0 (image-code (process-at (a .rows .now) (k - 1))) (c .before .before .before .before .before .before .image .last .1 .1 .0) (c .before .before .before .before .before .before .image .result)) e (c .before .before .before .before .before .before .image .ensures) in (c .before .before .clear-bytes .ensures ∙ image-filled q (a .rows .now) s h l w, image-written q (a .rows .now) s h w .1)))

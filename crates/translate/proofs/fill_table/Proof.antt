@@ -1,0 +1,27 @@
+-- `translate::fill_table` meets its contract, by the laws of specs/. Assumes nothing.
+use mathlib.Core.Path.{ap, _∙_}
+use mathlib.Core.List.{List, _++_}
+use Prim.Native.Nat.{ℕ, _-_, _*_}
+use lib.ListN.{length, take, replicate}
+use Rattle.translate.specs.Filled.{filled-table}
+use borrow.Author.Needs.{needs}
+use Rattle.translate.proofs.fill_table.Statement.{statement}
+use Rattle.translate.proofs.fill_table.Tie as tie
+
+-- src/lib.rt:57:29
+-- src/lib.rt:57:5
+-- src/lib.rt:58:24
+-- src/lib.rt:58:5
+-- src/lib.rt:53:1
+-- src/lib.rt:53:1
+
+pub fill-table-spec : {M : Type 1} → statement M
+fill-table-spec =
+    tie.close
+    (tie.spec
+    (λ c. search needs)
+    (λ c κs. search needs)
+    (λ c. search needs)
+    (λ c κs. search needs)
+    (λ c. search needs)
+    (λ c. let a = c .before .before .before .before .before .before .before .before .before .before .args in let n = 4 * a .count in λ xs e h. c .before .before .clear-words .ensures ∙ ap (λ (l : List ℕ). take n l ++ replicate (length l - n) 0) (c .before .before .before .before .before .before .copy-words .ensures) ∙ filled-table (a .rows .now) (a .table .now) xs n e (c .before .before .before .before .before .before .before .before .before .before .pre .1 .0) (c .before .before .before .before .before .before .before .before .before .before .pre .1 .1) h))

@@ -1,0 +1,21 @@
+-- `translate::refuse` meets its contract, by the laws of specs/. Assumes nothing.
+use Rattle.translate.specs.Filled.{refused-left}
+use borrow.Author.Needs.{needs}
+use Rattle.translate.proofs.refuse.Statement.{statement}
+use Rattle.translate.proofs.refuse.Tie as tie
+
+-- src/lib.rt:39:5
+-- src/lib.rt:40:5
+-- src/lib.rt:36:1
+-- src/lib.rt:36:1
+-- src/lib.rt:36:1
+
+pub refuse-spec : {M : Type 1} → statement M
+refuse-spec =
+    tie.close
+    (tie.spec
+    (λ c κs. search needs)
+    (λ c κs. search needs)
+    (λ c. search needs)
+    (λ c. search needs)
+    (λ c. let a = c .before .before .before .before .before .before .before .before .before .before .args in refused-left (a .number) (a .place) (a .table .now) _ (a .code .now) _ (c .before .before .before .before .before .before .clear-words .ensures) (c .before .before .clear-bytes .ensures)))

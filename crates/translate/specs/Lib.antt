@@ -1,0 +1,5 @@
+-- The public translation: what it answers and writes.
+pub mod Translate
+pub mod Room
+pub mod Filled
+pub mod Starred

@@ -1,0 +1,188 @@
+-- An accepted program's table and image fit the room that its tokens ask for. Laws; assumes nothing.
+use mathlib.Core.Path.{_≡_, refl, sym, ap, subst, _∙_}
+use mathlib.Core.List.{List, [], _∷_, _++_}
+use Prim.Native.Nat.{ℕ, zero, suc, _+_, _*_, _-_, _≤_, _<_}
+use native.Mathlib.Omega.{arith}
+use lib.ListN.{length}
+use Rattle.token.specs.Tokens.{Entry}
+use Rattle.grammar.specs.Grammar.{Token, number, name, mark, Constant, literal, named, Specification, val, commented, Expression, single, monadic, diadic, Chain, last, more, Operand, element, bracketed, Process, skip, stop, assign, assign-element, empty, braces, conditional, while, after-comment, Processes, only, followed, Program, program, text-expression, text-chain, text-operand, text-process, text-processes, text-constant, text-specification, text-specifications, text-program}
+use Rattle.grammar.specs.Grammar as grammar
+use Rattle.program.specs.Tree as tree
+use Rattle.grammar.specs.Rows as raw
+use Rattle.program.specs.Rows.{row-count}
+use Rattle.front.specs.Front.{symbols, text-of, place-of, accepted, front}
+use Rattle.front.specs.Exact.{accepted-is-X}
+use Rattle.front.specs.Count.{few-tokens}
+use Rattle.rules.specs.Room.{image-room}
+use Rattle.rules.specs.Code.{image}
+use Rattle.names.specs.Complaints.{of-specifications, complaints}
+use Rattle.names.specs.Accepted.{none-right}
+use Rattle.names.specs.ResolvedRows.{count-P}
+use Rattle.names.specs.Scope.{Meaning, unknown, variable, array, constant, Scope, empty-scope, meaning-of, declare, declare-all}
+use Rattle.names.specs.Resolve as resolve
+use Rattle.names.specs.Resolve.{value, element-of, assigned, element-assigned}
+use Rattle.rules.specs.Tokens.{tokens-of, process-tokens, list-tokens}
+
+-- a resolved part has no more tokens, as the rules count them, than its text
+value-tokens : (m : Meaning) → tokens-of (value m) ≡ 1
+value-tokens unknown = refl
+value-tokens (variable v) = refl
+value-tokens (array a) = refl
+value-tokens (constant w) = refl
+
+element-tokens : (m : Meaning) (e : tree.Expression) → tokens-of (element-of m e) ≤ tokens-of e + 3
+element-tokens unknown e = omega arith
+element-tokens (variable v) e = omega arith
+element-tokens (array a) e = omega arith
+element-tokens (constant w) e = omega arith
+
+assigned-tokens : (m : Meaning) (e : tree.Expression) → process-tokens (assigned m e) ≤ tokens-of e + 2
+assigned-tokens unknown e = omega arith
+assigned-tokens (variable v) e = omega arith
+assigned-tokens (array a) e = omega arith
+assigned-tokens (constant w) e = omega arith
+
+stored-tokens : (m : Meaning) (i e : tree.Expression) → process-tokens (element-assigned m i e) ≤ tokens-of i + tokens-of e + 4
+stored-tokens unknown i e = omega arith
+stored-tokens (variable v) i e = omega arith
+stored-tokens (array a) i e = omega arith
+stored-tokens (constant w) i e = omega arith
+
+module _ (text : ℕ → List ℕ) (s : Scope) where
+  mutual
+    tokens-E : (e : Expression) (w : List Token) → tokens-of (resolve.expression text e s) + length w ≤ length (text-expression e w)
+    tokens-E (single a) w = tokens-O a w
+    tokens-E (monadic o a) w = omega (arith, tokens-O a w)
+    tokens-E (diadic o a c) w = omega (arith, tokens-O a (mark o ∷ text-chain c o w), tokens-C c o w)
+
+    tokens-C : (c : Chain) (o : ℕ) (w : List Token) → tokens-of (resolve.chain text c o s) + length w ≤ length (text-chain c o w)
+    tokens-C (last a) o w = tokens-O a w
+    tokens-C (more a c) o w = omega (arith, tokens-O a (mark o ∷ text-chain c o w), tokens-C c o w)
+
+    tokens-O : (a : Operand) (w : List Token) → tokens-of (resolve.operand text a s) + length w ≤ length (text-operand a w)
+    tokens-O (grammar.constant v) w = omega arith
+    tokens-O (grammar.variable n) w = omega (arith, value-tokens (meaning-of text s n))
+    tokens-O (element n e) w = omega (arith, element-tokens (meaning-of text s n) (resolve.expression text e s), tokens-E e (mark 7 ∷ w))
+    tokens-O (bracketed e) w = omega (arith, tokens-E e (mark 5 ∷ w))
+
+  mutual
+    tokens-P : (p : Process) (w : List Token) → process-tokens (resolve.process text p s) + length w ≤ length (text-process p w)
+    tokens-P skip w = omega arith
+    tokens-P stop w = omega arith
+    tokens-P (assign n e) w = omega (arith, assigned-tokens (meaning-of text s n) (resolve.expression text e s), tokens-E e w)
+    tokens-P (assign-element n i e) w =
+        omega (arith, stored-tokens (meaning-of text s n) (resolve.expression text i s) (resolve.expression text e s), tokens-E i (mark 7 ∷ mark 12 ∷ text-expression e w), tokens-E e w)
+    tokens-P empty w = omega arith
+    tokens-P (braces ps) w = omega (arith, tokens-L ps (mark 9 ∷ w))
+    tokens-P (conditional e p q) w =
+        omega (arith, tokens-E e (mark 19 ∷ text-process p (mark 20 ∷ text-process q w)), tokens-P p (mark 20 ∷ text-process q w), tokens-P q w)
+    tokens-P (while e p) w = omega (arith, tokens-E e (mark 22 ∷ text-process p w), tokens-P p w)
+    tokens-P (after-comment p) w = omega (arith, tokens-P p w)
+
+    tokens-L : (ps : Processes) (w : List Token) → list-tokens (resolve.processes text ps s) + length w ≤ length (text-processes ps w)
+    tokens-L (only p) w = omega (arith, tokens-P p w)
+    tokens-L (followed p ps) w = omega (arith, tokens-P p (mark 10 ∷ text-processes ps w), tokens-L ps w)
+
+-- ── rows ──
+
+mutual
+  unfolding raw.count-expression
+
+  rows-E : (e : Expression) (w : List Token) → raw.count-expression e + length w ≤ length (text-expression e w)
+  rows-E (single a) w = rows-O a w
+  rows-E (monadic o a) w = omega (arith, rows-O a w)
+  rows-E (diadic o a c) w = omega (arith, rows-O a (mark o ∷ text-chain c o w), rows-C c o w)
+
+  rows-C : (c : Chain) (o : ℕ) (w : List Token) → raw.count-chain c + length w ≤ length (text-chain c o w)
+  rows-C (last a) o w = rows-O a w
+  rows-C (more a c) o w = omega (arith, rows-O a (mark o ∷ text-chain c o w), rows-C c o w)
+
+  rows-O : (a : Operand) (w : List Token) → raw.count-operand a + length w ≤ length (text-operand a w)
+  rows-O (grammar.constant v) w = omega arith
+  rows-O (grammar.variable n) w = omega arith
+  rows-O (element n e) w = omega (arith, rows-E e (mark 7 ∷ w))
+  rows-O (bracketed e) w = omega (arith, rows-E e (mark 5 ∷ w))
+
+mutual
+  unfolding raw.count-process
+
+  rows-P : (p : Process) (w : List Token) → raw.count-process p + length w ≤ length (text-process p w)
+  rows-P skip w = omega arith
+  rows-P stop w = omega arith
+  rows-P (assign n e) w = omega (arith, rows-E e w)
+  rows-P (assign-element n i e) w = omega (arith, rows-E i (mark 7 ∷ mark 12 ∷ text-expression e w), rows-E e w)
+  rows-P empty w = omega arith
+  rows-P (braces ps) w = omega (arith, rows-L ps (mark 9 ∷ w))
+  rows-P (conditional e p q) w = omega (arith, rows-E e (mark 19 ∷ text-process p (mark 20 ∷ text-process q w)), rows-P p (mark 20 ∷ text-process q w), rows-P q w)
+  rows-P (while e p) w = omega (arith, rows-E e (mark 22 ∷ text-process p w), rows-P p w)
+  rows-P (after-comment p) w = omega (arith, rows-P p w)
+
+  rows-L : (ps : Processes) (w : List Token) → raw.count-processes ps + length w ≤ length (text-processes ps w)
+  rows-L (only p) w = rows-P p w
+  rows-L (followed p ps) w = omega (arith, rows-P p (mark 10 ∷ text-processes ps w), rows-L ps w)
+
+constant-text : (c : Constant) (w : List Token) → length (text-constant c w) ≡ suc (length w)
+constant-text (literal v) w = refl
+constant-text (named n) w = refl
+
+rows-S : (d : Specification) (w : List Token) → raw.declared-by d + length w ≤ length (text-specification d w)
+rows-S (grammar.var n) w = omega arith
+rows-S (grammar.array n c) w = omega (arith, constant-text c (mark 7 ∷ w))
+rows-S (val n c) w = omega (arith, constant-text c w)
+rows-S (commented d) w = omega (arith, rows-S d w)
+
+rows-Ss : (ds : List Specification) (w : List Token) → raw.declared-rows ds + length w ≤ length (text-specifications ds w)
+rows-Ss [] w = omega arith
+rows-Ss (d ∷ ds) w = omega (arith, rows-S d (mark 10 ∷ text-specifications ds w), rows-Ss ds w)
+
+module _ (text : ℕ → List ℕ) where
+  declared-count : (d : Specification) (s : Scope) (ds : List tree.Declaration) → length (resolve.declared text d s ds) ≡ raw.declared-by d + length ds
+  declared-count (grammar.var n) s ds = omega arith
+  declared-count (grammar.array n c) s ds = omega arith
+  declared-count (val n c) s ds = omega arith
+  declared-count (commented d) s ds = declared-count d s ds
+
+  declarations-count : (ds : List Specification) (s : Scope) → length (resolve.declarations text ds s) ≡ raw.declared-rows ds
+  declarations-count [] s = refl
+  declarations-count (d ∷ ds) s = declared-count d s (resolve.declarations text ds (declare text d s)) ∙ ap (λ (n : ℕ). raw.declared-by d + n) (declarations-count ds (declare text d s))
+
+  -- no more rows than tokens, and the image's own tokens are among them
+  pub rows-and-tokens : (place : ℕ → ℕ) (p : Program) → complaints text place p ≡ [] → (row-count (resolve.resolve text p) ≤ length (text-program p)) × (process-tokens (resolve.resolve text p .body) ≤ length (text-program p))
+  unfolding row-count
+  rows-and-tokens place (program ds p) h =
+      let s = declare-all text ds empty-scope in
+      let c = count-P text place s p (none-right (of-specifications text place ds empty-scope) _ h) in
+      let n = declarations-count ds empty-scope in
+      (omega (arith, rows-P p [], rows-Ss ds (text-process p [])), omega (arith, tokens-P text s p [], rows-Ss ds (text-process p [])))
+
+-- an accepted source's table and image fit the lent buffers, and the image the machine's code
+pub record Fits (table code : ℕ) (n : ℕ) (q : tree.Program) : Type 0 where
+  pub rows : row-count q ≤ n
+  pub tokens : process-tokens (q .body) ≤ n
+  pub few : n ≤ 1024
+  pub in-table : 4 * row-count q ≤ table
+  pub in-code : length (image q) ≤ code
+  pub small : length (image q) ≤ 49408
+
+length-symbols : (ts : List Entry) (i : ℕ) → length (symbols ts i) ≡ length ts
+unfolding symbols
+length-symbols [] i = refl
+length-symbols (t ∷ ts) i = ap suc (length-symbols ts (suc i))
+
+pub accepted-fits : (source : List ℕ) (table code n : ℕ) (q : tree.Program) → front source table code ≡ accepted n q → Fits table code n q
+accepted-fits source table code n q h =
+    let a = accepted-is-X source table code n q h in
+    let x = a .is-X in
+    let b = rows-and-tokens (text-of source (a .ts)) (place-of (a .ts)) (a .tree) (x .nameable) in
+    let l : length (text-program (a .tree)) ≡ n = ap length (sym (x .grammatical)) ∙ length-symbols (a .ts) 0 ∙ sym (a .count) in
+    let t : length (a .ts) ≤ 1024 = few-tokens source (a .ts) (x .tokens) in
+    let r : row-count q ≤ n = rw (a .program) (omega (arith, b .0)) in
+    let k : process-tokens (q .body) ≤ n = rw (a .program) (omega (arith, b .1)) in
+    record {
+      rows = r;
+      tokens = k;
+      few = omega (arith, a .count);
+      in-table = omega (arith, a .room .rows, a .count);
+      in-code = omega (arith, image-room q, a .room .image, a .count);
+      small = omega (arith, image-room q, a .count);
+    }
