@@ -1,0 +1,3 @@
+-- Demands 1, 2 and 3 from source bytes to machine calls.
+pub mod Statement
+pub mod Proof

@@ -1,0 +1,75 @@
+-- Demands 1, 2 and 3, from source bytes to machine calls: statements alone, over the definitions that the public calls meet by equation.
+-- `translate` meets `translation`; `start`, `step` and `run` meet `startOf`, `stepOf` and `runOf`; `encode` and `decode` meet `encodeOf` and `decodeOf`.
+use mathlib.Core.Path.{_≡_}
+use mathlib.Core.List.{List, []}
+use Prim.Native.Nat.{ℕ, _≤_, _<_}
+use lib.ListN.{length, take}
+use Rattle.token.specs.Tokens.{Entry}
+use Rattle.grammar.specs.Grammar as grammar
+use Rattle.program.specs.Tree.{Program}
+use Rattle.front.specs.Front.{accepted, front, text-of}
+use Rattle.front.specs.Exact.{IsX, Room}
+use Rattle.names.specs.Resolve.{resolve}
+use Rattle.rules.specs.Code.{image}
+use Rattle.translate.specs.Translate.{Translated, translation, zeros}
+use Rattle.thumb.specs.Code.{encodeOf, decodeOf}
+use Rattle.thumb.specs.Laws.{whole}
+use Rattle.thumb.specs.declared.Instr.{Instr}
+use Rattle.thumb.specs.declared.Decoded.the-variants.{Known}
+use Rattle.exec.specs.declared.Machine.{Machine}
+use Rattle.machine.specs.Step.{stepOf}
+use Rattle.simulate.specs.Statement.{Lent, Demand3}
+
+-- ── demand 1: everything is answered ──
+
+-- "A bad source is refused with one number and one place ... and leaves table and image all zero"; "its counts are all 0"
+pub record RefusedWhole (table code : ℕ) (t : Translated) : Type 0 where
+  pub table-zero : t .table ≡ zeros table
+  pub code-zero : t .code ≡ zeros code
+  pub no-tokens : t .answer .tokens ≡ 0
+  pub no-rows : t .answer .rows ≡ 0
+  pub no-data : t .answer .«data» ≡ 0
+  pub no-depth : t .answer .depth ≡ 0
+  pub no-code : t .answer .code ≡ 0
+
+-- "A faulting instruction changes no register and no word"; nor does an SVC or a refusal
+pub record Unchanged (code words : List ℕ) (m : Machine) : Type 0 where
+  pub machine : stepOf code words m .after .state .machine ≡ m
+  pub memory : stepOf code words m .after .words ≡ words
+
+pub record Demand1 : Type 0 where
+  pub refused : (source : List ℕ) (table code : ℕ) → 0 < translation source table code .answer .status → RefusedWhole table code (translation source table code)
+  pub faulted : (code words : List ℕ) (m : Machine) → 0 < stepOf code words m .after .state .status → Unchanged code words m
+
+-- ── demand 2: exactly X, exactly Arm ──
+
+-- a source that the translation accepted, as this program
+pub record Translates (source : List ℕ) (table code : ℕ) (p : Program) : Type 0 where
+  pub status : translation source table code .answer .status ≡ 0
+  pub front-end : (n : ℕ) × (front source table code ≡ accepted n p)
+  -- "the image as code" is the first bytes of the code buffer, as many as the answer says
+  pub image-bytes : take (translation source table code .answer .code) (translation source table code .code) ≡ image p
+
+-- X by grammar, names and limits, as this program
+pub record XAs (source : List ℕ) (table code : ℕ) (p : Program) : Type 0 where
+  pub ts : List Entry
+  pub tree : grammar.Program
+  pub is-X : IsX source ts tree
+  pub room : Room (length ts) table code
+  pub resolved : p ≡ resolve (text-of source ts) tree
+
+pub record Demand2 : Type 0 where
+  -- "With room, a source is accepted exactly if it is X by grammar, names and limits"
+  pub accepted-is-X : (source : List ℕ) (table code : ℕ) (p : Program) → Translates source table code p → XAs source table code p
+  pub X-is-accepted : (source : List ℕ) (table code : ℕ) (p : Program) → XAs source table code p → Translates source table code p
+  -- "Each instruction is encoded and read back as Arm's manual says": the table is thumb's; both ways round it is the same
+  pub decoded : (i : Instr) → encodeOf i .status ≡ 0 → decodeOf (encodeOf i .first) (encodeOf i .second) ≡ Known i
+  pub encoded : (h s : ℕ) (i : Instr) → s < 65536 → decodeOf h s ≡ Known i → encodeOf i ≡ whole h s
+
+-- ── demand 3, and demand 2's ends: one claim over any list of calls ──
+
+pub record Demands : Type 0 where
+  pub one : Demand1
+  pub two : Demand2
+  -- any accepted source, any starting words, needed words <= memory <= 16,384 words, any list of calls
+  pub three : (source : List ℕ) (table code : ℕ) (p : Program) (memory : List ℕ) → Translates source table code p → Lent p memory → Demand3 p memory
