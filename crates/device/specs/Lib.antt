@@ -1,0 +1,2 @@
+-- The numbers of the C boundary.
+pub mod Numbers

@@ -1,0 +1,65 @@
+/* Translates a rule, runs its image on lent memory, and prints how it ended and its words.
+ *
+ *   rt staticlib device
+ *   cc -std=c99 -Wall -I include examples/c/pallet.c target/staticlib/libdevice.a -o pallet && ./pallet
+ */
+#include <stdio.h>
+#include <string.h>
+
+#include "gutilamboy.h"
+
+/* The total of the boxes on a pallet, none of them read if there are none. */
+static const char source[] =
+    "var count; var total; array weight[4];\n"
+    "{ total := 0;\n"
+    "  while 0 < count do\n"
+    "    { count := count - 1;\n"
+    "      total := total + weight[count] } }\n";
+
+enum { TOKENS = 64, MEMORY_WORDS = 64 };
+
+static uint32_t table[GUTILAMBOY_TABLE_WORDS(TOKENS)];
+static uint8_t code[GUTILAMBOY_CODE_BYTES(TOKENS)];
+static uint32_t memory[MEMORY_WORDS];
+
+static int run(const struct gutilamboy_translation *t, const char *what, const uint32_t *words, size_t length)
+{
+    struct gutilamboy_state state;
+    struct gutilamboy_stepped stepped;
+    struct gutilamboy_ran ran;
+    uint32_t status;
+    uint32_t i;
+
+    memset(memory, 0, sizeof memory);
+    memcpy(memory, words, length * sizeof *words);
+    status = device_start(code, t->code, memory, MEMORY_WORDS, t->data, t->depth, &state);
+    if (status != 0) {
+        printf("%s: start refused, %u\n", what, (unsigned)status);
+        return 1;
+    }
+    /* one instruction, then the rest, but no more than 10,000 */
+    device_step(code, t->code, memory, MEMORY_WORDS, &state, &stepped);
+    device_run(code, t->code, memory, MEMORY_WORDS, 10000, &state, &ran);
+    printf("%s: step %u, then status %u number %u, words", what, (unsigned)stepped.status, (unsigned)ran.status,
+           (unsigned)ran.number);
+    for (i = 0; i < t->data; i++)
+        printf(" %u", (unsigned)memory[i]);
+    printf("\n");
+    return 0;
+}
+
+int main(void)
+{
+    static const uint32_t empty[] = {0, 7, 10, 20, 30, 40};
+    static const uint32_t three[] = {3, 7, 10, 20, 30, 40};
+    static const uint32_t five[] = {5, 7, 10, 20, 30, 40};
+    struct gutilamboy_translation t;
+
+    device_translate((const uint8_t *)source, strlen(source), table, sizeof table / sizeof *table, code, sizeof code,
+                     &t);
+    printf("status %u place %u tokens %u rows %u data %u depth %u\n", (unsigned)t.status, (unsigned)t.place,
+           (unsigned)t.tokens, (unsigned)t.rows, (unsigned)t.data, (unsigned)t.depth);
+    if (t.status != 0)
+        return 1;
+    return run(&t, "empty pallet", empty, 6) + run(&t, "three boxes", three, 6) + run(&t, "five boxes", five, 6);
+}
