@@ -1,0 +1,67 @@
+-- Lines fit, give back address and halfwords, and stand for two or four bytes. Laws; rests on Disassembly.
+-- Assumes nothing.
+use mathlib.Core.Path.{_≡_, refl}
+use mathlib.Core.List.{List, [], _++_}
+use Prim.Native.Nat.{ℕ, _+_, _*_, _≤_, _<_}
+use native.Mathlib.Omega.{arith}
+use borrow.Author.Tests.{le-ltb}
+use lib.Dec.{ltb}
+use lib.ListN.{length, length-append, take, drop}
+use lib.Seq.{take-all}
+use Rattle.word.specs.Choice.{pick, by-test}
+use Rattle.text.specs.Ascii.{ascii}
+use Rattle.text.specs.Text.{fitted, hexadecimal}
+use Rattle.text.specs.Back.{number, hexadecimal-back}
+use Rattle.thumb.specs.declared.Instr.{Instr}
+use Rattle.thumb.specs.declared.Decoded.{Decoded}
+use Rattle.thumb.specs.declared.Decoded.the-variants.{Known, Unknown}
+use Rattle.thumb.specs.Code.{decodeOf}
+use Rattle.mnemonic.specs.Mnemonic.{instruction}
+use Rattle.mnemonic.specs.Laws.{length-instruction}
+use Rattle.disassembly.specs.Disassembly.{second, after, line, bytes, size}
+
+-- ── a line fits ──
+
+length-second : (first h : ℕ) → length (second first h) ≤ 5
+unfolding second
+length-second first h = by-test (λ t. length (pick t [] (ascii " " ++ hexadecimal h)) ≤ 5) (ltb first 0xF000) (λ _. omega arith) (λ _. omega arith)
+
+length-after : (at first h : ℕ) (d : Decoded) → length (after at first h d) ≤ 48
+length-after at first h Unknown = omega arith
+length-after at first h (Known i) = simp length-append (omega (arith, length-second first h, length-instruction at i))
+
+pub line-fits : (at first h : ℕ) → fitted (line at first h) ≡ line at first h
+unfolding line
+line-fits at first h = take-all 128 (line at first h) (simp length-append (omega (arith, length-after at first h (decodeOf first h))))
+
+-- ── what is read back ──
+
+pub address-back : (at first h : ℕ) → at < 65536 → number 16 0 (take 4 (line at first h)) ≡ at
+unfolding line
+address-back at first h = hexadecimal-back at
+
+pub first-back : (at first h : ℕ) → first < 65536 → number 16 0 (take 4 (drop 5 (line at first h))) ≡ first
+unfolding line
+first-back at first h = hexadecimal-back first
+
+pub second-back : (at first h : ℕ) (i : Instr) → decodeOf first h ≡ Known i → 0xF000 ≤ first → h < 65536 → number 16 0 (take 4 (drop 10 (line at first h))) ≡ h
+unfolding line second
+second-back at first h i e high small = rw (e, le-ltb first 0xF000 high) (hexadecimal-back h small)
+
+-- ── the bytes of a line ──
+
+pub size-least : (first h : ℕ) → 2 ≤ size first h
+unfolding size
+size-least first h = go (decodeOf first h)
+  where
+    go : (d : Decoded) → 2 ≤ bytes first d
+    go Unknown = omega arith
+    go (Known i) = by-test (λ t. 2 ≤ pick t 2 4) (ltb first 0xF000) (λ _. omega arith) (λ _. omega arith)
+
+pub size-most : (first h : ℕ) → size first h ≤ 4
+unfolding size
+size-most first h = go (decodeOf first h)
+  where
+    go : (d : Decoded) → bytes first d ≤ 4
+    go Unknown = omega arith
+    go (Known i) = by-test (λ t. pick t 2 4 ≤ 4) (ltb first 0xF000) (λ _. omega arith) (λ _. omega arith)

@@ -1,0 +1,3 @@
+-- An instruction as a line of text, and what can be read back from it.
+pub mod Disassembly
+pub mod Laws

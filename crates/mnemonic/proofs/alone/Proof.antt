@@ -1,0 +1,17 @@
+-- `mnemonic::alone` meets its contract: the mnemonic and the digits were added.
+-- Assumes nothing.
+use borrow.Author.Needs.{needs}
+use Rattle.text.specs.Text.{written, hexadecimal, decimal}
+use Rattle.text.specs.Ascii.{ascii}
+use Rattle.text.specs.Laws.{joined}
+use Rattle.mnemonic.specs.Mnemonic as spec
+use Rattle.mnemonic.proofs.alone.Statement.{statement}
+use Rattle.mnemonic.proofs.alone.Tie as tie
+
+returns : tie.Need-returns
+returns c =
+    let x = c .before .before .before .args in
+    joined (written (x .line)) (x .name .now) (decimal (x .n)) _ _ (c .before .put-all .ensures) (c .decimal .ensures)
+
+pub alone-spec : {M : Type 1} → statement M
+alone-spec = tie.close (tie.spec (λ c κs. search needs) (λ c κs. search needs) returns)

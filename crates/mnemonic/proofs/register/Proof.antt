@@ -1,0 +1,17 @@
+-- `mnemonic::register` meets its contract: the letter and the digits were added.
+-- Assumes nothing.
+use borrow.Author.Needs.{needs}
+use Rattle.text.specs.Text.{written, hexadecimal, decimal}
+use Rattle.text.specs.Ascii.{ascii}
+use Rattle.text.specs.Laws.{joined}
+use Rattle.mnemonic.specs.Mnemonic as spec
+use Rattle.mnemonic.proofs.register.Statement.{statement}
+use Rattle.mnemonic.proofs.register.Tie as tie
+
+returns : tie.Need-returns
+returns c =
+    let x = c .before .before .args in
+    joined (written (x .line)) (ascii "r") (decimal (x .r)) _ _ (c .before .put .ensures) (c .decimal .ensures)
+
+pub register-spec : {M : Type 1} → statement M
+register-spec = tie.close (tie.spec (λ c κs. search needs) (λ c κs. search needs) returns)

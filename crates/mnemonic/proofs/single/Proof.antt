@@ -1,0 +1,17 @@
+-- `mnemonic::single` meets its contract: the mnemonic and the register were added.
+-- Assumes nothing.
+use borrow.Author.Needs.{needs}
+use Rattle.text.specs.Text.{written, hexadecimal, decimal}
+use Rattle.text.specs.Ascii.{ascii}
+use Rattle.text.specs.Laws.{joined}
+use Rattle.mnemonic.specs.Mnemonic as spec
+use Rattle.mnemonic.proofs.single.Statement.{statement}
+use Rattle.mnemonic.proofs.single.Tie as tie
+
+returns : tie.Need-returns
+returns c =
+    let x = c .before .before .before .args in
+    joined (written (x .line)) (x .name .now) (spec.register (x .d)) _ _ (c .before .put-all .ensures) (c .register .ensures)
+
+pub single-spec : {M : Type 1} → statement M
+single-spec = tie.close (tie.spec (λ c κs. search needs) (λ c κs. search needs) returns)

@@ -1,0 +1,3 @@
+-- An instruction as text: mnemonic and operands.
+pub mod Mnemonic
+pub mod Laws

@@ -1,0 +1,36 @@
+-- `text::hexadecimal` meets its contract: four bytes were added, one by one.
+-- Assumes nothing.
+use mathlib.Core.Path.{_≡_}
+use mathlib.Core.List.{[], _∷_, _++_}
+use borrow.Author.Needs.{needs}
+use Rattle.text.specs.Text.{written, fitted}
+use Rattle.text.specs.Laws.{joined}
+use Rattle.text.proofs.hexadecimal.Statement.{statement}
+use Rattle.text.proofs.hexadecimal.Tie as tie
+
+returns : tie.Need-returns
+returns c =
+    let l = c .before .before .before .before .before .before .before .before .args .line in
+    let d1 = c .before .before .before .before .before .before .before .digit .result in
+    let d2 = c .before .before .before .before .before .digit2 .result in
+    let d3 = c .before .before .before .digit3 .result in
+    let d4 = c .before .digit4 .result in
+    let two = joined (written l) (d1 ∷ []) (d2 ∷ []) _ _ (c .before .before .before .before .before .before .put .ensures) (c .before .before .before .before .put2 .ensures) in
+    let three = joined (written l) (d1 ∷ d2 ∷ []) (d3 ∷ []) _ _ two (c .before .before .put3 .ensures) in
+    let four : written (c .put4 .result) ≡ fitted (written l ++ (d1 ∷ d2 ∷ d3 ∷ d4 ∷ [])) =
+    joined (written l) (d1 ∷ d2 ∷ d3 ∷ []) (d4 ∷ []) _ _ three (c .put4 .ensures) in
+    rw (← c .before .before .before .before .before .before .before .digit .ensures, ← c .before .before .before .before .before .digit2 .ensures, ← c .before .before .before .digit3 .ensures, ← c .before .digit4 .ensures) four
+
+pub hexadecimal-spec : {M : Type 1} → statement M
+hexadecimal-spec =
+    tie.close
+    (tie.spec
+    (λ c κs. search needs)
+    (λ c κs. search needs)
+    (λ c κs. search needs)
+    (λ c κs. search needs)
+    (λ c κs. search needs)
+    (λ c κs. search needs)
+    (λ c κs. search needs)
+    (λ c κs. search needs)
+    returns)
