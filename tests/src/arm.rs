@@ -1,0 +1,394 @@
+//! A second assembler, disassembler and interpreter, written from document 01 and Arm's
+//! Armv6-M manual alone, by bit patterns and Rust's own 32-bit arithmetic.
+
+use std::sync::OnceLock;
+
+#[derive(Clone, Copy, Debug, PartialEq, Eq)]
+pub enum Op {
+    Shli,
+    Shri,
+    Ashri,
+    Addr,
+    Subr,
+    Movi,
+    Addi,
+    Subi,
+    Ldrpci,
+    Strspi,
+    Ldrspi,
+    Addpci,
+    Addspi,
+    Andr,
+    Xorr,
+    Shl,
+    Shr,
+    Negr,
+    Orr,
+    Mul,
+    Mvnr,
+    Str,
+    Ldr,
+    Stri,
+    Ldri,
+    Incsp,
+    Decsp,
+    Svc,
+    Beq,
+    Bne,
+    Bge,
+    Blt,
+    Bu,
+    Bl,
+}
+use Op::*;
+
+/// In the order of their numbers at the boundary.
+pub const OPS: [Op; 34] = [
+    Shli, Shri, Ashri, Addr, Subr, Movi, Addi, Subi, Ldrpci, Strspi, Ldrspi, Addpci, Addspi, Andr, Xorr, Shl,
+    Shr, Negr, Orr, Mul, Mvnr, Str, Ldr, Stri, Ldri, Incsp, Decsp, Svc, Beq, Bne, Bge, Blt, Bu, Bl,
+];
+
+/// How an instruction's operands lie in it.
+#[derive(Clone, Copy, PartialEq, Eq)]
+pub enum Layout {
+    /// imm5 (a) Rm (b) Rd (c)
+    Imm5,
+    /// imm5 counting 1 to 32
+    Count,
+    /// Rm (a) Rn (b) Rd (c)
+    Regs3,
+    /// Rd (a) imm8 (b)
+    Imm8,
+    /// Rm (a) Rd (b)
+    Regs2,
+    /// imm7 (a)
+    Imm7,
+    /// imm8 (a)
+    Only8,
+    /// signed distance of 8 bits
+    Near,
+    /// signed distance of 11 bits
+    Jump,
+    /// signed distance of 22 bits, two halfwords
+    Call,
+}
+use Layout::*;
+
+/// The manual's leading bits, as a string, and the layout of the rest.
+pub fn pattern(op: Op) -> (&'static str, Layout) {
+    match op {
+        Shli => ("00000", Imm5),
+        Shri => ("00001", Count),
+        Ashri => ("00010", Count),
+        Addr => ("0001100", Regs3),
+        Subr => ("0001101", Regs3),
+        Movi => ("00100", Imm8),
+        Addi => ("00110", Imm8),
+        Subi => ("00111", Imm8),
+        Ldrpci => ("01001", Imm8),
+        Strspi => ("10010", Imm8),
+        Ldrspi => ("10011", Imm8),
+        Addpci => ("10100", Imm8),
+        Addspi => ("10101", Imm8),
+        Andr => ("0100000000", Regs2),
+        Xorr => ("0100000001", Regs2),
+        Shl => ("0100000010", Regs2),
+        Shr => ("0100000011", Regs2),
+        Negr => ("0100001001", Regs2),
+        Orr => ("0100001100", Regs2),
+        Mul => ("0100001101", Regs2),
+        Mvnr => ("0100001111", Regs2),
+        Str => ("0101000", Regs3),
+        Ldr => ("0101100", Regs3),
+        Stri => ("01100", Imm5),
+        Ldri => ("01101", Imm5),
+        Incsp => ("101100000", Imm7),
+        Decsp => ("101100001", Imm7),
+        Svc => ("11011111", Only8),
+        Beq => ("11010000", Near),
+        Bne => ("11010001", Near),
+        Bge => ("11011010", Near),
+        Blt => ("11011011", Near),
+        Bu => ("11100", Jump),
+        Bl => ("11110", Call),
+    }
+}
+
+/// An instruction: up to three fields from the highest, or a distance in halfwords.
+#[derive(Clone, Copy, Debug, PartialEq, Eq)]
+pub struct Instr {
+    pub op: Op,
+    pub a: u8,
+    pub b: u8,
+    pub c: u8,
+    pub k: i32,
+}
+
+/// The leading bits at the top of a halfword.
+fn lead(bits: &str) -> u16 {
+    u16::from_str_radix(bits, 2).unwrap() << (16 - bits.len())
+}
+
+/// The halfwords of an instruction, or none if a field doesn't fit.
+pub fn assemble(i: Instr) -> Option<Vec<u16>> {
+    let (bits, layout) = pattern(i.op);
+    let top = lead(bits);
+    let (a, b, c) = (i.a as u16, i.b as u16, i.c as u16);
+    let fits = |v: u16, width: u32| v >> width == 0;
+    let signed = |width: u32| i.k >= -(1 << (width - 1)) && i.k < 1 << (width - 1);
+    let one = |ok: bool, rest: u16| ok.then(|| vec![top | rest]);
+    match layout {
+        Imm5 => one(fits(a, 5) && fits(b, 3) && fits(c, 3), a << 6 | b << 3 | c),
+        Count => one((1..=32).contains(&a) && fits(b, 3) && fits(c, 3), (a & 31) << 6 | b << 3 | c),
+        Regs3 => one(fits(a, 3) && fits(b, 3) && fits(c, 3), a << 6 | b << 3 | c),
+        Imm8 => one(fits(a, 3), a << 8 | b),
+        Regs2 => one(fits(a, 3) && fits(b, 3), a << 3 | b),
+        Imm7 => one(fits(a, 7), a),
+        Only8 => one(true, a),
+        Near => one(signed(8), (i.k & 0xff) as u16),
+        Jump => one(signed(11), (i.k & 0x7ff) as u16),
+        Call => signed(22).then(|| {
+            // The manual's BL: S:imm10 and J1:J2:imm11; in this range both J bits are 1.
+            let high = (i.k >> 11) as u16 & 0x7ff;
+            let low = i.k as u16 & 0x7ff;
+            vec![top | high, 0b11111 << 11 | low]
+        }),
+    }
+}
+
+/// The operation whose leading bits a halfword has.
+fn operation(h: u16) -> Option<Op> {
+    OPS.into_iter().find(|&op| {
+        let bits = pattern(op).0;
+        h >> (16 - bits.len()) == lead(bits) >> (16 - bits.len())
+    })
+}
+
+/// The instruction of a halfword and the one after it.
+pub fn disassemble(h: u16, next: u16) -> Option<Instr> {
+    static OPERATIONS: OnceLock<Vec<Option<Op>>> = OnceLock::new();
+    let op = OPERATIONS.get_or_init(|| (0..=u16::MAX).map(operation).collect())[h as usize]?;
+    let three = |v: u16| (v & 7) as u8;
+    let imm5 = (h >> 6 & 31) as u8;
+    let mut i = Instr { op, a: 0, b: 0, c: 0, k: 0 };
+    match pattern(op).1 {
+        Imm5 => (i.a, i.b, i.c) = (imm5, three(h >> 3), three(h)),
+        Count => (i.a, i.b, i.c) = (if imm5 == 0 { 32 } else { imm5 }, three(h >> 3), three(h)),
+        Regs3 => (i.a, i.b, i.c) = (three(h >> 6), three(h >> 3), three(h)),
+        Imm8 => (i.a, i.b) = (three(h >> 8), h as u8),
+        Regs2 => (i.a, i.b) = (three(h >> 3), three(h)),
+        Imm7 => i.a = (h & 127) as u8,
+        Only8 => i.a = h as u8,
+        Near => i.k = h as i8 as i32,
+        Jump => i.k = ((h << 5) as i16 >> 5) as i32,
+        Call => {
+            if next >> 11 != 0b11111 {
+                return None;
+            }
+            // I1 = NOT(J1 XOR S), I2 = NOT(J2 XOR S), J1 = J2 = 1.
+            let s = (h >> 10 & 1) as u32;
+            let imm = s << 24 | s << 23 | s << 22 | ((h & 0x3ff) as u32) << 12 | ((next & 0x7ff) as u32) << 1;
+            i.k = (imm << 7) as i32 >> 8;
+        }
+    }
+    Some(i)
+}
+
+#[derive(Clone, Debug, PartialEq, Eq)]
+pub struct State {
+    pub r: [u32; 8],
+    pub sp: u32,
+    pub lr: u32,
+    pub pc: u32,
+    pub rs: u32,
+}
+
+pub const DATA: u32 = 0x2000_0000;
+
+pub fn refusal(code: &[u8], memory: &[u32]) -> u32 {
+    if code.len() > 65536 {
+        31
+    } else if memory.len() > 16384 {
+        32
+    } else {
+        0
+    }
+}
+
+/// Status and state.
+pub fn start(code: &[u8], memory: &[u32], d: u32, n: u32) -> (u32, State) {
+    let needed = d as u128 + 2 * n as u128 + 8;
+    let status = match refusal(code, memory) {
+        0 if d > 8192 || n > 32 => 34,
+        0 if (memory.len() as u128) < needed => 33,
+        other => other,
+    };
+    let mut s = State { r: [0; 8], sp: 0, lr: 0, pc: 0, rs: 0 };
+    if status == 0 {
+        s.r[7] = DATA;
+        s.sp = DATA + 4 * needed as u32;
+    }
+    (status, s)
+}
+
+enum End {
+    Svc(u32),
+    Fault(u32),
+}
+
+/// A load or store of a data word: its place in data, what it held and holds.
+#[derive(Clone, Copy, Debug, PartialEq, Eq)]
+pub struct Touch {
+    pub store: bool,
+    pub word: u32,
+    pub old: u32,
+    pub new: u32,
+}
+
+fn byte(code: &[u8], a: u64) -> Option<u32> {
+    code.get(usize::try_from(a).ok()?).map(|&b| b as u32)
+}
+
+fn halfword(code: &[u8], a: u64) -> Option<u16> {
+    Some((byte(code, a)? | byte(code, a + 1)? << 8) as u16)
+}
+
+fn load(code: &[u8], memory: &[u32], a: u32, touch: &mut Option<Touch>) -> Result<u32, End> {
+    if a & 3 != 0 {
+        return Err(End::Fault(23));
+    }
+    let a = a as u64;
+    if let (Some(low), Some(high)) = (halfword(code, a), halfword(code, a + 2)) {
+        return Ok(low as u32 | (high as u32) << 16);
+    }
+    let outside = || End::Fault(24);
+    let word = a.checked_sub(DATA as u64).ok_or_else(outside)? as u32 / 4;
+    let v = *memory.get(word as usize).ok_or_else(outside)?;
+    *touch = Some(Touch { store: false, word, old: v, new: v });
+    Ok(v)
+}
+
+fn store(memory: &mut [u32], a: u32, v: u32, touch: &mut Option<Touch>) -> Result<(), End> {
+    if a & 3 != 0 {
+        return Err(End::Fault(23));
+    }
+    let outside = || End::Fault(24);
+    let word = a.checked_sub(DATA).ok_or_else(outside)? / 4;
+    let old = std::mem::replace(memory.get_mut(word as usize).ok_or_else(outside)?, v);
+    *touch = Some(Touch { store: true, word, old, new: v });
+    Ok(())
+}
+
+fn fetch(code: &[u8], pc: u32) -> Result<Instr, End> {
+    let outside = || End::Fault(21);
+    if pc & 1 == 1 {
+        return Err(outside());
+    }
+    let h = halfword(code, pc as u64).ok_or_else(outside)?;
+    let mut next = 0;
+    if h >> 11 == 0b11110 {
+        next = halfword(code, pc as u64 + 2).ok_or_else(outside)?;
+    }
+    disassemble(h, next).ok_or(End::Fault(22))
+}
+
+/// One instruction. On an error nothing but the answer may have changed: callers work on a copy.
+fn execute(s: &mut State, code: &[u8], memory: &mut [u32], touch: &mut Option<Touch>) -> Result<(), End> {
+    let i = fetch(code, s.pc)?;
+    let ahead = s.pc.wrapping_add(4);
+    let mut next = s.pc.wrapping_add(2);
+    let (a, b, c) = (i.a as usize & 7, i.b as usize & 7, i.c as usize & 7);
+    let shift = |v: u32, n: u32, f: fn(u32, u32) -> Option<u32>| f(v, n).unwrap_or(0);
+    let r = s.r;
+    // a result, which sets rs
+    let mut set: Option<(usize, u32)> = None;
+    // a register alone
+    let mut plain: Option<(usize, u32)> = None;
+    let target = ahead.wrapping_add((i.k as u32) << 1);
+    match i.op {
+        Shli => set = Some((c, shift(r[b], i.a as u32, u32::checked_shl))),
+        Shri => set = Some((c, shift(r[b], i.a as u32, u32::checked_shr))),
+        Ashri => set = Some((c, ((r[b] as i32 as i64) >> i.a) as u32)),
+        Addr => set = Some((c, r[b].wrapping_add(r[a]))),
+        Subr => set = Some((c, r[b].wrapping_sub(r[a]))),
+        Movi => set = Some((a, i.b as u32)),
+        Addi => set = Some((a, r[a].wrapping_add(i.b as u32))),
+        Subi => set = Some((a, r[a].wrapping_sub(i.b as u32))),
+        Andr => set = Some((b, r[b] & r[a])),
+        Xorr => set = Some((b, r[b] ^ r[a])),
+        Orr => set = Some((b, r[b] | r[a])),
+        Shl => set = Some((b, shift(r[b], r[a] & 255, u32::checked_shl))),
+        Shr => set = Some((b, shift(r[b], r[a] & 255, u32::checked_shr))),
+        Negr => set = Some((b, r[a].wrapping_neg())),
+        Mul => set = Some((b, r[b].wrapping_mul(r[a]))),
+        Mvnr => set = Some((b, !r[a])),
+        Ldrpci => plain = Some((a, load(code, memory, (ahead & !3).wrapping_add(4 * i.b as u32), touch)?)),
+        Ldrspi => plain = Some((a, load(code, memory, s.sp.wrapping_add(4 * i.b as u32), touch)?)),
+        Ldr => plain = Some((c, load(code, memory, r[b].wrapping_add(r[a]), touch)?)),
+        Ldri => plain = Some((c, load(code, memory, r[b].wrapping_add(4 * i.a as u32), touch)?)),
+        Addpci => plain = Some((a, (ahead & !3).wrapping_add(4 * i.b as u32))),
+        Addspi => plain = Some((a, s.sp.wrapping_add(4 * i.b as u32))),
+        Strspi => store(memory, s.sp.wrapping_add(4 * i.b as u32), r[a], touch)?,
+        Str => store(memory, r[b].wrapping_add(r[a]), r[c], touch)?,
+        Stri => store(memory, r[b].wrapping_add(4 * i.a as u32), r[c], touch)?,
+        Incsp => s.sp = s.sp.wrapping_add(4 * i.a as u32),
+        Decsp => s.sp = s.sp.wrapping_sub(4 * i.a as u32),
+        Svc => return Err(End::Svc(i.a as u32)),
+        Beq if s.rs == 0 => next = target,
+        Bne if s.rs != 0 => next = target,
+        Bge if (s.rs as i32) >= 0 => next = target,
+        Blt if (s.rs as i32) < 0 => next = target,
+        Beq | Bne | Bge | Blt => {}
+        Bu => next = target,
+        Bl => {
+            s.lr = s.pc.wrapping_add(5);
+            next = target;
+        }
+    }
+    if let Some((d, v)) = plain.or(set) {
+        s.r[d] = v;
+    }
+    if let Some((_, v)) = set {
+        s.rs = v;
+    }
+    s.pc = next;
+    Ok(())
+}
+
+/// Status and number of one step.
+pub fn step(s: &mut State, code: &[u8], memory: &mut [u32]) -> (u32, u32) {
+    watched_step(s, code, memory, &mut None)
+}
+
+/// The same, and the data word that it loads or stores, if any.
+pub fn watched_step(s: &mut State, code: &[u8], memory: &mut [u32], touch: &mut Option<Touch>) -> (u32, u32) {
+    let refused = refusal(code, memory);
+    if refused != 0 {
+        return (refused, 0);
+    }
+    let mut after = s.clone();
+    match execute(&mut after, code, memory, touch) {
+        Ok(()) => {
+            *s = after;
+            (0, 0)
+        }
+        Err(End::Svc(n)) => (1, n),
+        Err(End::Fault(f)) => (f, 0),
+    }
+}
+
+/// Status, number and count of a run.
+pub fn run(s: &mut State, code: &[u8], memory: &mut [u32], limit: u64) -> (u32, u32, u64) {
+    let refused = refusal(code, memory);
+    if refused != 0 {
+        return (refused, 0, 0);
+    }
+    for done in 0..limit {
+        match step(s, code, memory) {
+            (0, _) => {}
+            (1, n) => return (1, n, done + 1),
+            (f, _) => return (f, 0, done),
+        }
+    }
+    (0, 0, limit)
+}

@@ -1,0 +1,159 @@
+//! What `benchmarks/run` measures.
+//!
+//!     measure source TOKENS KIND    writes a source of so many tokens
+//!     measure translate FILE        translates a file once, for a tool that counts instructions
+//!     measure stack FILE...         the stack that a translation of each of the files takes
+//!     measure speed                 the proved machine's speed and the second interpreter's
+//!     measure bytes FILE...         tokens and image bytes of files
+
+use reference::generate::{program, render, Random};
+use std::hint::black_box;
+use std::time::Instant;
+use tests::{arm, device, needed_words, Translation, CODE_BYTES, TABLE_WORDS};
+
+fn main() {
+    let arguments: Vec<String> = std::env::args().skip(1).collect();
+    let arguments: Vec<&str> = arguments.iter().map(String::as_str).collect();
+    match arguments[..] {
+        ["source", tokens, kind] => print!("{}", source(tokens.parse().expect("a number"), kind)),
+        ["translate", file] => {
+            let (got, _) = translate(&read(file));
+            println!("{} {} {} {}", got.status, got.tokens, got.rows, got.code);
+        }
+        ["stack", ref files @ ..] => files.iter().for_each(|file| {
+            let source = read(file);
+            println!("| {} | {} | {} |", name(file), translate(&source).0.status, stack(source));
+        }),
+        ["speed"] => speed(),
+        ["bytes", ref files @ ..] => files.iter().for_each(|file| bytes(file)),
+        _ => panic!("measure source|translate|stack|speed|bytes"),
+    }
+}
+
+fn name(file: &str) -> &str {
+    file.rsplit('/').next().unwrap_or(file)
+}
+
+fn read(file: &str) -> Vec<u8> {
+    std::fs::read(file).unwrap_or_else(|error| panic!("{file}: {error}"))
+}
+
+fn translate(source: &[u8]) -> (Translation, Vec<u8>) {
+    let (mut table, mut code) = (vec![0; TABLE_WORDS], vec![0; CODE_BYTES]);
+    let got = device::translate(source, &mut table, &mut code);
+    code.truncate(got.code as usize);
+    (got, code)
+}
+
+/// A source of exactly so many tokens. `names`: as many declarations as fit half of it, each used at its end;
+/// `list`: assignments in braces; `random`: a generated program, comments before it to make up the number.
+fn source(tokens: usize, kind: &str) -> String {
+    let counted = |text: &[u8]| reference::tokens::tokens(text).expect("tokens").len();
+    let mut text = match kind {
+        "names" => {
+            // 2 braces, 3 tokens a declaration, 6 an assignment with its `;`, one `;` fewer
+            let count = (tokens - 1) / 9;
+            let declared: String = (0..count).map(|n| format!("var name{n};")).collect();
+            let uses: Vec<String> =
+                (0..count).map(|n| format!("name{n}:=name{}+{n}", count - 1 - n)).collect();
+            format!("{declared}{{{}}}", uses.join(";")).into_bytes()
+        }
+        "list" => {
+            // 9 tokens of declarations, 2 braces, 15 an assignment with its `;`, one `;` fewer
+            let count = (tokens - 10) / 15;
+            let assign = vec!["v[x and 7]:=x+(x<<3)"; count].join(";");
+            format!("var x;array v[8];{{{assign}}}").into_bytes()
+        }
+        "random" => {
+            let mut random = Random::new(tokens as u64);
+            let mut made = Vec::new();
+            while counted(&made) < tokens * 9 / 10 {
+                let pieces = program(&mut random, tokens.min(1_000));
+                made = render(&mut random, &pieces);
+            }
+            made
+        }
+        _ => panic!("names, list or random"),
+    };
+    let missing = tokens - counted(&text);
+    text.splice(0..0, "||".repeat(missing).into_bytes());
+    assert_eq!(counted(&text), tokens);
+    text.into_iter().map(char::from).map(|c| if c.is_ascii() { c } else { '?' }).collect()
+}
+
+/// Bytes of stack that one call takes, by filling the stack below with a pattern and looking how far it was
+/// written. In a thread of its own, whose whole stack is there to be written.
+fn stack(source: Vec<u8>) -> usize {
+    const ROOM: usize = 3 << 20;
+    const CLEAR: usize = 512;
+    const PATTERN: u8 = 0xa5;
+
+    #[inline(never)]
+    fn paint(top: usize) {
+        for at in (top - ROOM..top - CLEAR).rev() {
+            unsafe { (at as *mut u8).write_volatile(PATTERN) };
+        }
+    }
+
+    #[inline(never)]
+    fn deepest(top: usize) -> usize {
+        let mut at = top - ROOM;
+        assert_eq!(unsafe { (at as *const u8).read_volatile() }, PATTERN, "more stack than was looked at");
+        while at < top - CLEAR && unsafe { (at as *const u8).read_volatile() } == PATTERN {
+            at += 1;
+        }
+        top - at
+    }
+
+    let measure = move || {
+        let (mut table, mut code) = (vec![0; TABLE_WORDS], vec![0; CODE_BYTES]);
+        let here = 0u8;
+        let top = black_box(&here) as *const u8 as usize;
+        paint(top);
+        black_box(device::translate(&source, &mut table, &mut code));
+        deepest(top)
+    };
+    let thread = std::thread::Builder::new().stack_size(4 * ROOM);
+    thread.spawn(measure).expect("a thread").join().expect("a number")
+}
+
+/// Instructions a second of `device_run` and of the second interpreter, on the same images, the best of five.
+fn speed() {
+    const LIMIT: u64 = 2_000_000;
+    let programs = [
+        ("counting", "var n; while true do n := n + 1"),
+        ("array", "var i; array v[64]; while true do {v[i and 63] := v[(i + 1) and 63] + i; i := i + 1}"),
+        ("operators", "var x; var y; while true do {x := (x * 5) + (y >> 3); y := (x < y) xor (y - x)}"),
+    ];
+    println!("| program | proved machine, million a second | second interpreter | ratio |");
+    println!("|---|---|---|---|");
+    for (name, source) in programs {
+        let (got, image) = translate(source.as_bytes());
+        assert_eq!(got.status, 0, "{source}");
+        let memory = vec![1; needed_words(got.data, got.depth)];
+        let best = |run: &dyn Fn(&mut arm::State, &mut [u32]) -> (u32, u32, u64)| {
+            let times = (0..5).map(|_| {
+                let (mut memory, (_, mut state)) =
+                    (memory.clone(), device::start(&image, &memory, got.data, got.depth));
+                let begun = Instant::now();
+                assert_eq!(run(&mut state, &mut memory), (0, 0, LIMIT));
+                begun.elapsed().as_secs_f64()
+            });
+            LIMIT as f64 / 1e6 / times.fold(f64::MAX, f64::min)
+        };
+        let proved = best(&|state, memory| device::run(state, &image, memory, LIMIT));
+        let second = best(&|state, memory| arm::run(state, &image, memory, LIMIT));
+        println!("| {name} | {proved:.1} | {second:.1} | {:.2} |", proved / second);
+    }
+}
+
+fn bytes(file: &str) {
+    let (got, _) = translate(&read(file));
+    let name = name(file);
+    if got.status != 0 {
+        println!("| {name} | refused: {} at {} | | |", got.status, got.place);
+        return;
+    }
+    let each = got.code as f64 / got.tokens as f64;
+    println!("| {name} | {} | {} | {each:.1} |", got.tokens, got.code);
+}

@@ -1,0 +1,331 @@
+//! The proved machine against the second one.
+
+use crate::{by_status, print};
+use tests::arm::{self, assemble, disassemble, pattern, Instr, Layout, Op, State, OPS};
+use tests::device;
+use tests::random::Random;
+
+const EDGES: [u8; 22] =
+    [0, 1, 2, 6, 7, 8, 9, 15, 16, 30, 31, 32, 33, 63, 64, 126, 127, 128, 129, 200, 254, 255];
+
+fn same<T: PartialEq + std::fmt::Debug>(what: &str, case: impl std::fmt::Debug, got: T, want: T) {
+    if got != want {
+        panic!("{what} {case:?}: got {got:?}, want {want:?}");
+    }
+}
+
+fn encoded(i: Instr) -> [u32; 4] {
+    match assemble(i).as_deref() {
+        None => [35, 0, 0, 0],
+        Some([h]) => [0, 1, *h as u32, 0],
+        Some([h, k]) => [0, 2, *h as u32, *k as u32],
+        Some(_) => unreachable!(),
+    }
+}
+
+/// One instruction: its encoding, and the way back where there is one.
+fn encoding(i: Instr) -> u64 {
+    let want = encoded(i);
+    let op = OPS.iter().position(|&op| op == i.op).unwrap() as u8;
+    same("encode", i, device::encode(op, i.a, i.b, i.c, i.k), want);
+    if want[0] == 0 {
+        same("decode after encode", i, device::decode(want[2] as u16, want[3] as u16), Some(i));
+    }
+    1
+}
+
+fn encodings(random: &mut Random) -> u64 {
+    let mut count = 0;
+    let mut distances: Vec<i32> =
+        vec![i32::MIN, i32::MIN + 1, i32::MAX - 1, i32::MAX, 0x2000_0000, -0x2000_0000];
+    for width in [8, 11, 16, 21, 22, 23, 24] {
+        for near in -2..=2 {
+            distances.extend([(1 << (width - 1)) + near, -(1 << (width - 1)) + near]);
+        }
+    }
+    distances.extend(-3000..3000);
+    distances.extend((0..20_000).map(|_| random.word() as i32 >> random.below(16)));
+    for op in OPS {
+        let zero = Instr { op, a: 0, b: 0, c: 0, k: 0 };
+        match pattern(op).1 {
+            Layout::Near | Layout::Jump | Layout::Call => {
+                for &k in &distances {
+                    count += encoding(Instr { k, ..zero });
+                }
+            }
+            Layout::Imm7 | Layout::Only8 => {
+                for a in 0..=255 {
+                    count += encoding(Instr { a, ..zero });
+                }
+            }
+            Layout::Imm8 | Layout::Regs2 => {
+                for a in 0..=255 {
+                    for b in 0..=255 {
+                        count += encoding(Instr { a, b, ..zero });
+                    }
+                }
+            }
+            Layout::Imm5 | Layout::Count | Layout::Regs3 => {
+                for a in 0..=255 {
+                    for b in EDGES {
+                        for c in EDGES {
+                            count += encoding(Instr { a, b, c, ..zero });
+                        }
+                    }
+                }
+            }
+        }
+    }
+    count
+}
+
+/// One pair of halfwords: its decoding, and the way back where there is one.
+fn decoding(h: u16, k: u16) -> u64 {
+    let want = disassemble(h, k);
+    same("decode", (h, k), device::decode(h, k), want);
+    if let Some(i) = want {
+        let back = if i.op == Op::Bl { vec![h, k] } else { vec![h] };
+        same("assemble after disassemble", i, assemble(i), Some(back));
+    }
+    1
+}
+
+fn decodings(random: &mut Random) -> u64 {
+    let mut count = 0;
+    for h in 0..=0xffffu16 {
+        for k in [0, 1, 0xe7ff, 0xe800, 0xf000, 0xf7ff, 0xf800, 0xf801, 0xfffe, 0xffff, 0x4770, 0xdf00] {
+            count += decoding(h, k);
+        }
+        for _ in 0..12 {
+            count += decoding(h, random.word() as u16);
+        }
+    }
+    // every BL, and each first half with every second one around the edge
+    for h in 0xf000..=0xf7ffu16 {
+        for k in 0xf7f0..=0xffffu16 {
+            count += decoding(h, k);
+        }
+    }
+    count
+}
+
+/// A word that is often an address, or near an edge.
+fn word(random: &mut Random, code: usize, memory: usize) -> u32 {
+    let small = random.below(12) as u32;
+    match random.below(12) {
+        0 => small,
+        1 => small.wrapping_neg(),
+        2 => 0x8000_0000u32.wrapping_add(small).wrapping_sub(6),
+        3 => random.below(code as u64 + 8) as u32,
+        4 | 5 | 6 => 0x2000_0000 + 4 * random.below(memory.min(64) as u64 + 2) as u32,
+        7 => 0x2000_0000u32.wrapping_add(random.below(4 * memory.min(64) as u64 + 24) as u32).wrapping_sub(8),
+        8 => 1 << random.below(32),
+        9 => 256 * random.below(300) as u32 + small,
+        10 => (0x2000_0000 + 4 * memory as u32).wrapping_sub(4 * small),
+        _ => random.word(),
+    }
+}
+
+fn state(random: &mut Random, code: usize, memory: usize) -> State {
+    let pc = match random.below(24) {
+        0 => random.word(),
+        1 => (code as u32).wrapping_sub(random.below(6) as u32),
+        2 => random.of(&[u32::MAX, u32::MAX - 1, u32::MAX - 2, u32::MAX - 3, 0x2000_0000, 0x1fff_fffe]),
+        3 => random.below(code as u64 + 4) as u32,
+        _ => random.below(code as u64 / 2 + 1) as u32 * 2,
+    };
+    let mut r = [0; 8];
+    for x in &mut r {
+        *x = word(random, code, memory);
+    }
+    State { r, sp: word(random, code, memory), lr: random.word(), pc, rs: word(random, code, memory) }
+}
+
+/// Code of random halfwords, of instructions of each kind alike, or of bytes.
+fn code(random: &mut Random, length: usize, kind: u64) -> Vec<u8> {
+    let mut bytes = Vec::with_capacity(length + 4);
+    while bytes.len() < length {
+        let halves = match kind {
+            0 => vec![random.word() as u16],
+            _ => {
+                let op = random.of(&OPS);
+                let reach = random.of(&[3, 8, 16, 40]);
+                let bytes = random.of(&[4, 16, 256]);
+                let i = Instr {
+                    op,
+                    a: random.below(if matches!(pattern(op).1, Layout::Imm5 | Layout::Count) {
+                        33
+                    } else {
+                        8
+                    }) as u8,
+                    b: random.below(if pattern(op).1 == Layout::Imm8 { bytes } else { 8 }) as u8,
+                    c: random.below(8) as u8,
+                    k: random.below(2 * reach) as i32 - reach as i32,
+                };
+                assemble(i).unwrap_or_default()
+            }
+        };
+        for h in halves {
+            bytes.extend(h.to_le_bytes());
+        }
+    }
+    bytes.truncate(length);
+    bytes
+}
+
+fn memory(random: &mut Random, length: usize) -> Vec<u32> {
+    (0..length).map(|_| if random.below(4) == 0 { random.word() } else { word(random, 40, length) }).collect()
+}
+
+/// Answers seen, by status: what the comparison reached.
+struct Seen {
+    steps: [u64; 36],
+    runs: [u64; 36],
+    starts: [u64; 36],
+    run_instructions: u64,
+    kinds: [u64; 34],
+}
+
+impl Seen {
+    fn none() -> Seen {
+        Seen { steps: [0; 36], runs: [0; 36], starts: [0; 36], run_instructions: 0, kinds: [0; 34] }
+    }
+}
+
+fn one_step(seen: &mut Seen, s: &State, code: &[u8], memory: &[u32]) {
+    let (mut mine, mut theirs) = (s.clone(), s.clone());
+    let (mut my_memory, mut their_memory) = (memory.to_vec(), memory.to_vec());
+    let want = arm::step(&mut mine, code, &mut my_memory);
+    let got = device::step(&mut theirs, code, &mut their_memory);
+    same("step", (s, code.len()), (got, theirs, &their_memory), (want, mine.clone(), &my_memory));
+    if want.0 != 0 {
+        same("kept", s, (mine, my_memory), (s.clone(), memory.to_vec()));
+    }
+    seen.steps[want.0 as usize] += 1;
+    let pc = s.pc as usize;
+    if want.0 < 2 {
+        let half = |a: usize| code.get(a..a + 2).map_or(0, |b| u16::from_le_bytes([b[0], b[1]]));
+        let i = disassemble(half(pc), half(pc + 2)).unwrap();
+        seen.kinds[OPS.iter().position(|&op| op == i.op).unwrap()] += 1;
+    }
+}
+
+fn one_run(seen: &mut Seen, s: &State, code: &[u8], memory: &[u32], limit: u64) {
+    let (mut mine, mut theirs) = (s.clone(), s.clone());
+    let (mut my_memory, mut their_memory) = (memory.to_vec(), memory.to_vec());
+    let want = arm::run(&mut mine, code, &mut my_memory, limit);
+    // a run that ends before its limit ends alike under any larger one
+    let asked = if want.0 != 0 && want.2 < limit { u64::MAX } else { limit };
+    let got = device::run(&mut theirs, code, &mut their_memory, asked);
+    same("run", (s, limit), (got, theirs, their_memory), (want, mine, my_memory));
+    seen.runs[want.0 as usize] += 1;
+    seen.run_instructions += want.2;
+}
+
+fn one_start(seen: &mut Seen, code: &[u8], memory: &[u32], d: u32, n: u32) {
+    let want = arm::start(code, memory, d, n);
+    same("start", (code.len(), memory.len(), d, n), device::start(code, memory, d, n), want.clone());
+    seen.starts[want.0 as usize] += 1;
+}
+
+fn steps(random: &mut Random, seen: &mut Seen) {
+    for round in 0..60_000u64 {
+        let length = match round % 16 {
+            0 => random.of(&[0, 1, 2, 3, 4, 5]),
+            1 => 7 + 2 * random.below(20) as usize,
+            _ => 8 + 2 * random.below(28) as usize,
+        };
+        let words = if round % 12 == 0 { random.below(3) as usize } else { random.below(40) as usize };
+        let code = code(random, length, round % 5);
+        let memory = memory(random, words);
+        for _ in 0..24 {
+            let s = state(random, length, words);
+            one_step(seen, &s, &code, &memory);
+        }
+    }
+    // the limits of both lengths, and a few at random places
+    for (length, words) in [
+        (65534, 8),
+        (65535, 8),
+        (65536, 8),
+        (65537, 8),
+        (70_000, 16_385),
+        (64, 16_383),
+        (64, 16_384),
+        (64, 16_385),
+        (65_536, 16_384),
+    ] {
+        let code = code(random, length, 1);
+        let memory = memory(random, words);
+        for _ in 0..400 {
+            let s = state(random, length, words);
+            one_step(seen, &s, &code, &memory);
+        }
+        for limit in [0, 1, 50] {
+            one_run(seen, &state(random, length, words), &code, &memory, limit);
+        }
+        for d in [0, 1, 8191, 8192, 8193, u32::MAX] {
+            for n in [0, 1, 31, 32, 33, u32::MAX] {
+                one_start(seen, &code, &memory, d, n);
+            }
+        }
+    }
+}
+
+fn runs(random: &mut Random, seen: &mut Seen) {
+    for round in 0..250_000u64 {
+        let length = if round % 20 == 0 { random.below(6) as usize } else { 4 + random.below(60) as usize };
+        let words = random.below(40) as usize;
+        let code = code(random, length, round % 7);
+        let memory = memory(random, words);
+        let limit = random.of(&[0, 1, 2, 3, 10, 30, 100, 400]);
+        let s = state(random, length, words);
+        one_run(seen, &s, &code, &memory, limit);
+    }
+    // a countdown: SUBI r0,1; BNE back; SVC 7
+    let code: Vec<u8> = [0x3801u16, 0xd1fd, 0xdf07].iter().flat_map(|h| h.to_le_bytes()).collect();
+    for start in [1u32, 2, 1000, 1_000_000] {
+        for limit in
+            [0, 1, 2 * start as u64 - 1, 2 * start as u64, 2 * start as u64 + 1, 2 * start as u64 + 2]
+        {
+            let mut s = State { r: [0; 8], sp: 0, lr: 0, pc: 0, rs: 0 };
+            s.r[0] = start;
+            one_run(seen, &s, &code, &[], limit);
+        }
+    }
+}
+
+fn starts(random: &mut Random, seen: &mut Seen) {
+    for _ in 0..20_000 {
+        let d = random.of(&[0, 1, 2, 100, 8191, 8192, 8193, u32::MAX]).min(random.word());
+        let n = random.of(&[0, 1, 5, 31, 32, 33, u32::MAX]).min(random.word());
+        let needed = (d as usize).min(9000) + 2 * (n as usize).min(40) + 8;
+        let words = (needed + random.below(4) as usize).saturating_sub(2);
+        let memory = vec![7; words];
+        one_start(seen, &[0; 3], &memory, d, n);
+    }
+}
+
+#[test]
+fn every_decoding() {
+    print(&format!("decode: {} pairs of halfwords", decodings(&mut Random(1))));
+}
+
+#[test]
+fn every_encoding() {
+    print(&format!("encode: {} instructions", encodings(&mut Random(2))));
+}
+
+#[test]
+fn starts_steps_and_runs() {
+    let mut seen = Seen::none();
+    starts(&mut Random(3), &mut seen);
+    steps(&mut Random(4), &mut seen);
+    runs(&mut Random(5), &mut seen);
+    let total = |counts: &[u64]| counts.iter().sum::<u64>();
+    print(&format!("start: {} calls (by status {})", total(&seen.starts), by_status(&seen.starts)));
+    print(&format!("step: {} calls (by status {})", total(&seen.steps), by_status(&seen.steps)));
+    print(&format!("step: fewest completed of one kind of instruction {}", seen.kinds.iter().min().unwrap()));
+    let (runs, done) = (total(&seen.runs), seen.run_instructions);
+    print(&format!("run: {runs} calls, {done} instructions (by status {})", by_status(&seen.runs)));
+}
