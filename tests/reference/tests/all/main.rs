@@ -5,6 +5,7 @@ use std::io::Write;
 mod cases;
 mod depths;
 mod earley;
+mod examples;
 mod generated;
 mod grammar;
 mod rows;
