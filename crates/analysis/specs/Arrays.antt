@@ -13,7 +13,7 @@ use Rattle.token.specs.Tokens.{Entry, Outcome, read, refused, scan, outcome, en
 use Rattle.grammar.specs.Grammar.{Token}
 use Rattle.grammar.specs.Tokens.{token-of, tokens, unread}
 use Rattle.front.specs.Front.{entry-at, place-of, text-of, symbols, unread-place}
-use Rattle.resolution.specs.Walk.{text-at, place-at}
+use Rattle.name_table.specs.View.{text-at, place-at}
 
 -- a source that is read is short
 pub short-source : (s : List ℕ) (ts : List Entry) → outcome s ≡ read ts → length s ≤ 16384

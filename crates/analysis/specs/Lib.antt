@@ -1,8 +1,6 @@
 -- The front end's code: what it answers, and laws on its arrays.
 pub mod Analysed
 pub mod Arrays
-pub mod FewRows
-pub mod Specified
 pub mod Named
 pub mod Parsed
 pub mod Tokened

@@ -29,15 +29,15 @@ use Rattle.names.specs.Depths.{same-deepest}
 use Rattle.front.specs.Front as front
 use Rattle.front.specs.Front.{judged}
 use Rattle.front.specs.Exact.{no-complaint}
-use Rattle.name_table.specs.View.{Table, view}
+use Rattle.name_table.specs.View.{Table, view, text-at, place-at}
 use Rattle.binding.specs.Judge.{or-else, first-append}
 use Rattle.binding.specs.Going.{Filled, Fills}
 use Rattle.binding.specs.declared.Progress.{Progress}
 use Rattle.binding.specs.declared.Progress.the-variants as bound
 use Rattle.reader.specs.Answer.{process-start}
-use Rattle.resolution.specs.Walk.{Walked, walked, walk, walk-entries, walk-rows, text-at, place-at, scope-of, judged-by, verdict, getD-sets-past}
+use Rattle.resolution.specs.Walk.{Walked, walked, walk, walk-entries, walk-rows, scope-of, judged-by, verdict, getD-sets-past}
 use Rattle.resolution.specs.declared.Found as walk-found
-use Rattle.analysis.specs.Specified.{count-declared, words-declared}
+use Rattle.names.specs.Specified.{count-declared, words-declared}
 use Rattle.analysis.specs.Analysed.{Found, Analysed}
 use Rattle.analysis.specs.declared.Analysis.the-variants.{Refused, Accepted}
 

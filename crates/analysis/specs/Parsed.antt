@@ -28,9 +28,9 @@ use Rattle.front.specs.Front.{symbols, text-of, place-of, judged, named, parsed
 use Rattle.front.specs.Refused.{least-first-in-text}
 use Rattle.reader.specs.Answer.{answer, Written, process-start}
 use Rattle.reader.specs.declared.Answer.the-variants as read
-use Rattle.resolution.specs.Walk.{text-at, place-at}
+use Rattle.name_table.specs.View.{text-at, place-at}
 use Rattle.analysis.specs.Arrays.{symbols-all, unread-all, length-entries, place-all, text-all}
-use Rattle.analysis.specs.FewRows.{few-rows}
+use Rattle.grammar.specs.FewRows.{few-rows}
 use Rattle.analysis.specs.Named.{holds-set, Ready, named-as}
 
 module _ (source ks ps vs : List ℕ) (lp : length ps ≡ length ks) (lv : length vs ≡ length ks) where

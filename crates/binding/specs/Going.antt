@@ -17,10 +17,11 @@ use Rattle.grammar.specs.Tokens.{unread}
 use Rattle.program.specs.Rows.{declared-rows}
 use Rattle.names.specs.Scope.{Meaning, Entry, Scope, lookup, empty-scope, meaning-of, declare, declare-all}
 use Rattle.names.specs.Complaints.{Complaint, Verdict, fine, refused, is-known, when, bad-length, of-specification, of-specifications}
+use Rattle.names.specs.Accepted.{none-right}
 use Rattle.names.specs.First.{first}
 use Rattle.names.specs.Resolve.{declarations}
 use Rattle.expressions.specs.Parts.{table-one}
-use Rattle.name_table.specs.View.{Table, view, meant, by-sort}
+use Rattle.name_table.specs.View.{Table, view, meant, by-sort, text-at, place-at}
 use Rattle.name_table.specs.View as views
 use Rattle.binding.specs.Judge.{verdict-of, or-else, first-append, listed, over, some, constant-read, constant-at, complaints-by, item-of, item-row, specification-at, width, specified-complaints, specified-scope, specified-rows}
 use Rattle.binding.specs.Here.{specification-here, comment-here, none-left, some-left}
@@ -30,13 +31,6 @@ use Rattle.binding.specs.declared.Constant as read
 use Rattle.binding.specs.declared.Item.{Item}
 use Rattle.binding.specs.declared.Progress.{Progress}
 use Rattle.binding.specs.declared.Progress.the-variants.{Refused, Declared}
-
--- the bytes of token t, and its place
-abbrev pub text-by : List ℕ → List ℕ → List ℕ → ℕ → List ℕ
-text-by source places values t = views.text source (getD places t 0) (getD values t 0)
-
-abbrev pub place-by : List ℕ → ℕ → ℕ
-place-by places t = getD places t 0
 
 -- the scope that the name table holds
 abbrev pub scope-of : List ℕ → Table → ℕ → ℕ → ℕ → Scope
@@ -54,10 +48,6 @@ quiet (x ∷ xs) ys e = let z : _≡_ {A = ℕ} 0 1 = cc in absurd (omega arith)
 listed-none : (p : ℕ) (ks : List ℕ) → first (listed p ks) ≡ fine → ks ≡ []
 listed-none p [] e = refl
 listed-none p (k ∷ ks) e = let z : _≡_ {A = ℕ} 0 1 = cc in absurd (omega arith)
-
-append-none : (xs ys : List ℕ) → xs ++ ys ≡ [] → (xs ≡ []) × (ys ≡ [])
-append-none [] ys e = (refl, e)
-append-none (x ∷ xs) ys e = let z : _≡_ {A = ℕ} 0 1 = cc in absurd (omega arith)
 
 not-when : (b : Bool) (n : ℕ) → when b n ≡ [] → b ≡ false
 not-when true n e = let z : _≡_ {A = ℕ} 0 1 = cc in absurd (omega arith)
@@ -85,13 +75,13 @@ room k m status word names words rows p q = by (eqb k kind.var) (eqb k kind.arra
         (pick b (record { sort = 2; row = rows; word = words; size = word; rows = 1; words = word }) (record { sort = 3; row = 0; word = word; size = 0; rows = 0; words = 0 }))
 
     has : (more : ℕ) → known ++ full more ≡ [] → (names ≤ 255) × (words + more ≤ 8192)
-    has more e = room-over names words more (not-when (over names words more) 12 (append-none known (full more) e .1))
+    has more e = room-over names words more (not-when (over names words more) 12 (none-right known (full more) e))
 
     by : (a b c : Bool) → first (pick a (listed p (known ++ full 1)) (pick b (listed p (array-numbers c) ++ rest c) (listed p (known ++ full 0) ++ rest c))) ≡ fine → (names ≤ 255) × (words + it a b .words ≤ 8192) × (it a b .rows ≤ 1)
     by true b c e = let r = has 1 (listed-none p (known ++ full 1) e) in (r .0, r .1, omega arith)
     by false true true e =
         let x = listed-none p (array-numbers true) (quiet (listed p (array-numbers true)) (rest true) e .0) in
-        let y = append-none (when (bad-length word) 11) (full word) (append-none known (when (bad-length word) 11 ++ full word) x .1) .1 in
+        let y = none-right (when (bad-length word) 11) (full word) (none-right known (when (bad-length word) 11 ++ full word) x) in
         let r = room-over names words word (not-when (over names words word) 12 y) in
         (r .0, r .1, omega arith)
     by false true false e = let x = listed-none q (status ∷ []) (quiet (listed p (array-numbers false)) (rest false) e .1) in let z : _≡_ {A = ℕ} 0 1 = cc in absurd (omega arith)
@@ -130,10 +120,10 @@ Puts e p n names made used old new t t′ (Declared count rows words) = Put e p 
 -- what `declare` answers, with the arrays that it leaves
 module _ (source kinds places values : List ℕ) where
   abbrev text : ℕ → List ℕ
-  text = text-by source places values
+  text = text-at source places values
 
   abbrev place : ℕ → ℕ
-  place = place-by places
+  place = place-at places
 
   -- the complaints of the specification at i, in the words that the code reads
   abbrev pub read-complaints : Scope → ℕ → List Complaint

@@ -14,11 +14,11 @@ ghost use lib.ListN.{length, getD};
 ghost use Rattle.word.specs.Choice.{pick};
 ghost use Rattle.names.specs.Complaints.{«is-known», «bad-length», when};
 ghost use Rattle.names.specs.First.{first};
-ghost use Rattle.name_table.specs.View.{meant, arrays};
+ghost use Rattle.name_table.specs.View.{meant, arrays, «text-at»};
 ghost use Rattle.grammar.specs.Grammar.{Specification, Process, «text-process», «text-specifications»};
 ghost use Rattle.grammar.specs.Tokens.{unread};
 ghost use Rattle.binding.specs.Judge as judging;
-ghost use Rattle.binding.specs.Going.{«text-by», «scope-of», Puts, Enters, Fills};
+ghost use Rattle.binding.specs.Going.{«scope-of», Puts, Enters, Fills};
 ghost use Rattle.binding.specs.Judge.{«verdict-of», «or-else», listed, over, «constant-by», «complaints-by», «item-of», some, «constant-read», «constant-at»};
 
 // The refusal's number and place, if there is one.
@@ -211,7 +211,7 @@ fn constant_at(
     names: usize,
     j: usize,
 ) -> Constant
-    ensures { λ r. ⌜ ((made used : ℕ) → r ≡ «constant-read» («text-by» (now (source .entry)) (now (places .entry)) (now (values .entry))) («scope-of» (now (source .entry)) (arrays (now (sources .entry)) (now (lengths .entry)) (now (rows .entry)) (now (sorts .entry)) (now (words .entry)) (now (sizes .entry))) names made used) («constant-at» (now (kinds .entry)) (now (values .entry)) j)) ⌝ }
+    ensures { λ r. ⌜ ((made used : ℕ) → r ≡ «constant-read» («text-at» (now (source .entry)) (now (places .entry)) (now (values .entry))) («scope-of» (now (source .entry)) (arrays (now (sources .entry)) (now (lengths .entry)) (now (rows .entry)) (now (sorts .entry)) (now (words .entry)) (now (sizes .entry))) names made used) («constant-at» (now (kinds .entry)) (now (values .entry)) j)) ⌝ }
 {
     if kind_at(kinds, j) == kind::NUMBER {
         return Constant {

@@ -6,7 +6,6 @@ ghost use lib.ListN.{length, take, drop, replicate};
 
 // The words from n on are zeroed.
 pub fn clear_words(words: &mut [u32], n: usize)
-    requires { ⌜ n ≤ length (now words) ⌝ }
     ensures { λ _. ⌜ now (words .exit) ≡ take n (now (words .entry)) ++ replicate (length (now (words .entry)) - n) 0 ⌝ }
 {
     let mut i = n;
@@ -18,7 +17,6 @@ pub fn clear_words(words: &mut [u32], n: usize)
 
 // The bytes from n on are zeroed.
 pub fn clear_bytes(bytes: &mut [u8], n: usize)
-    requires { ⌜ n ≤ length (now bytes) ⌝ }
     ensures { λ _. ⌜ now (bytes .exit) ≡ take n (now (bytes .entry)) ++ replicate (length (now (bytes .entry)) - n) 0 ⌝ }
 {
     let mut i = n;

@@ -7,8 +7,6 @@ use native.Mathlib.Omega.{arith}
 use lib.ListN.{length, take}
 use lib.Seq.{take-at}
 use Rattle.program.specs.Tree.{Program}
-use Rattle.program.specs.Sound as sound
-use Rattle.program.specs.SoundTree.{sound-resolved}
 use Rattle.front.specs.Front.{Outcome, refused, accepted, front}
 use Rattle.front.specs.Exact as exact
 use Rattle.front.specs.Exact.{accepts-X}
@@ -18,20 +16,20 @@ use Rattle.thumb.specs.Laws.{decode-encode, encode-decode}
 use Rattle.machine.specs.Laws.{step-kept}
 use Rattle.translate.specs.Translate.{Translated, translated, translation, zeros}
 use Rattle.translate.specs.Room.{accepted-fits}
-use Rattle.simulate.specs.Statement.{Sound, Lent, Demand3}
+use Rattle.simulate.specs.Statement.{Lent, Demand3}
 use Rattle.simulate.specs.Theorem as simulation
 use Rattle.demands.specs.Statement.{RefusedWhole, Unchanged, Demand1, Translates, XAs, Demand2, Demands}
 
 -- ── demand 1 ──
 
-whole-refusal : (table code : ℕ) (o : Outcome) → 0 < translated table code o .answer .status → RefusedWhole table code (translated table code o)
-whole-refusal table code (refused n p) h = record { table-zero = refl; code-zero = refl; no-tokens = refl; no-rows = refl; no-data = refl; no-depth = refl; no-code = refl }
+whole-refusal : (table code : ℕ) (o : Outcome) → 0 < translated table code o .answer .status → RefusedWhole table code o (translated table code o)
+whole-refusal table code (refused n p) h = record { by-order = refl; table-zero = refl; code-zero = refl; no-tokens = refl; no-rows = refl; no-data = refl; no-depth = refl; no-code = refl }
 whole-refusal table code (accepted n p) h = absurd (omega arith)
 
 demand1 : Demand1
 unfolding translation
 demand1 = record {
-  refused = λ source table code h. whole-refusal table code (front source table code) h;
+  refuses = λ source table code h. whole-refusal table code (front source table code) h;
   faulted = λ code words m h. let k = step-kept code words m h in record { machine = k .0; memory = k .1 };
 }
 
@@ -66,7 +64,7 @@ demand3 source table code p memory t l =
     let e = t .front-end .1 in
     let s = accepted-sound source table code n p e in
     let f = accepted-fits source table code n p e in
-    simulation.demand3 p (record { few-data = s .small; shallow = s .shallow; resolved = sound-resolved p s; short = omega (arith, f .small) }) memory l
+    simulation.demand3 p s (omega (arith, f .small)) memory l
 
 -- THE THEOREM
 pub demands : Demands

@@ -7,7 +7,7 @@ use lib.ListN.{length, take}
 use Rattle.token.specs.Tokens.{Entry}
 use Rattle.grammar.specs.Grammar as grammar
 use Rattle.program.specs.Tree.{Program}
-use Rattle.front.specs.Front.{accepted, front, text-of}
+use Rattle.front.specs.Front.{Outcome, refused, accepted, front, text-of}
 use Rattle.front.specs.Exact.{IsX, Room}
 use Rattle.names.specs.Resolve.{resolve}
 use Rattle.rules.specs.Code.{image}
@@ -23,7 +23,9 @@ use Rattle.simulate.specs.Statement.{Lent, Demand3}
 -- ── demand 1: everything is answered ──
 
 -- "A bad source is refused with one number and one place ... and leaves table and image all zero"; "its counts are all 0"
-pub record RefusedWhole (table code : ℕ) (t : Translated) : Type 0 where
+pub record RefusedWhole (table code : ℕ) (o : Outcome) (t : Translated) : Type 0 where
+  -- "in document 01's order": the number and place are those that `front` comes to
+  pub by-order : o ≡ refused (t .answer .status) (t .answer .place)
   pub table-zero : t .table ≡ zeros table
   pub code-zero : t .code ≡ zeros code
   pub no-tokens : t .answer .tokens ≡ 0
@@ -38,7 +40,7 @@ pub record Unchanged (code words : List ℕ) (m : Machine) : Type 0 where
   pub memory : stepOf code words m .after .words ≡ words
 
 pub record Demand1 : Type 0 where
-  pub refused : (source : List ℕ) (table code : ℕ) → 0 < translation source table code .answer .status → RefusedWhole table code (translation source table code)
+  pub refuses : (source : List ℕ) (table code : ℕ) → 0 < translation source table code .answer .status → RefusedWhole table code (front source table code) (translation source table code)
   pub faulted : (code words : List ℕ) (m : Machine) → 0 < stepOf code words m .after .state .status → Unchanged code words m
 
 -- ── demand 2: exactly X, exactly Arm ──

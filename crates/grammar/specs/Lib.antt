@@ -12,3 +12,4 @@ pub mod Exact
 pub mod RowLaws
 pub mod Unread
 pub mod Cases
+pub mod FewRows

@@ -24,6 +24,13 @@ meant (Constant word) = scope.constant word
 abbrev pub text : List ℕ → ℕ → ℕ → List ℕ
 text source place length = take length (drop place source)
 
+-- by the token arrays: the bytes of token t, a name's value being its length, and its place
+abbrev pub text-at : List ℕ → List ℕ → List ℕ → ℕ → List ℕ
+text-at source places values t = text source (getD places t 0) (getD values t 0)
+
+abbrev pub place-at : List ℕ → ℕ → ℕ
+place-at places t = getD places t 0
+
 -- Expected form: "The name table is filled arrays of 256 source places, lengths and declaration rows"; a name's sort is 1 var, 2 array, 3 val,
 -- its word the word offset or a val's word, its size an array's length
 pub record Table : Type 0 where

@@ -8,3 +8,4 @@ pub mod Depths
 pub mod First
 pub mod Order
 pub mod RowComplaints
+pub mod Specified

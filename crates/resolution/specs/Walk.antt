@@ -13,10 +13,11 @@ use Rattle.grammar.specs.RowLaws.{sets-rows}
 use Rattle.program.specs.Rows.{row}
 use Rattle.program.specs.Table.{word}
 use Rattle.program.specs.ReadBack.{Holds}
-use Rattle.names.specs.Scope.{Meaning, unknown, variable, array, constant, Entry, Scope, lookup, meaning-of}
+use Rattle.names.specs.Scope.{Meaning, unknown, variable, array, constant, Entry, Scope, lookup, word-of, meaning-of}
 use Rattle.names.specs.Complaints.{Complaint, as-value, as-target, as-array, at, Verdict, fine, refused, lesser, least}
 use Rattle.names.specs.RowComplaints.{lesser-of, lesser-of-comm, lesser-of-assoc, least-append, numbers-of, row-complaint, row-complaints}
 use Rattle.names.specs.ResolvedRows.{declared-row, value-row, names-one, resolve-row, resolve-rows}
+use Rattle.name_table.specs.View.{text-at, place-at}
 use Rattle.resolution.specs.declared.Found.{Found}
 
 -- a number at a place, 0 for none
@@ -26,13 +27,6 @@ judged-by n p = pick (eqb n 0) fine (refused (record { number = n; place = p }))
 -- the code's verdict
 abbrev pub verdict : Found → Verdict
 verdict f = judged-by (f .number) (f .place)
-
--- the bytes of token t, and its place, by the token arrays
-abbrev pub text-at : List ℕ → List ℕ → List ℕ → ℕ → List ℕ
-text-at source places lengths t = take (getD lengths t 0) (drop (getD places t 0) source)
-
-abbrev pub place-at : List ℕ → ℕ → ℕ
-place-at places t = getD places t 0
 
 -- a scope with these entries
 abbrev pub scope-of : List Entry → Scope
@@ -48,12 +42,6 @@ sort-of unknown = 0
 sort-of (variable v) = 1
 sort-of (array a) = 2
 sort-of (constant w) = 3
-
-abbrev pub word-of : Meaning → ℕ
-word-of unknown = 0
-word-of (variable v) = 0
-word-of (array a) = 0
-word-of (constant w) = w
 
 -- 8, or 10 for a sort that is wrong, or that is not the right one
 unfoldable pub unless : ℕ → ℕ → ℕ

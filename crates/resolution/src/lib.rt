@@ -3,11 +3,12 @@ ghost use mathlib.Core.Path.{_≡_};
 ghost use Prim.Native.Nat.{ℕ, _+_, _-_, _*_, _<_, _≤_};
 ghost use lib.ListN.{length, getD};
 ghost use lib.Seq.{sets};
-ghost use Rattle.name_table.specs.View.{meant, view, arrays};
+ghost use Rattle.name_table.specs.View.{meant, view, arrays, «text-at», «place-at»};
 ghost use Rattle.names.specs.RowComplaints.{«lesser-of»};
 ghost use Rattle.names.specs.ResolvedRows;
 ghost use Rattle.names.specs.Complaints;
-ghost use Rattle.resolution.specs.Walk.{verdict, walk, walked, «text-at», «place-at», «scope-of»};
+ghost use Rattle.names.specs.Scope.{«word-of»};
+ghost use Rattle.resolution.specs.Walk.{verdict, walk, walked, «scope-of»};
 ghost use Rattle.resolution.specs.Walk as spec;
 use expressions::put;
 use name_table::Meaning;
@@ -68,7 +69,7 @@ fn row_of(m: Meaning) -> u32
 
 // A val's word.
 fn word_of(m: Meaning) -> u32
-    ensures { λ r. ⌜ r ≡ spec.«word-of» (meant m) ⌝ }
+    ensures { λ r. ⌜ r ≡ «word-of» (meant m) ⌝ }
 {
     match m {
         Meaning::Unknown => 0,

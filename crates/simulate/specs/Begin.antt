@@ -2,7 +2,7 @@
 use mathlib.Core.Path.{_≡_, refl, sym, ap, _∙_}
 use mathlib.Core.Option.{Option, none, some}
 use mathlib.Core.List.{List, [], _∷_, _++_, append-assoc, map}
-use Prim.Native.Nat.{ℕ, zero, suc, _+_, _*_, _%_, _<_}
+use Prim.Native.Nat.{ℕ, zero, suc, _+_, _*_, _%_, _<_, _≤_}
 use native.Mathlib.Omega.{arith}
 use lib.ListN.{getD, length, take, replicate, length-append, length-replicate, length-map}
 use lib.Seq.{getD-take, length-take-le}
@@ -16,12 +16,14 @@ use Rattle.rules.specs.Code.{process-code, image-code, image}
 use Rattle.rules.specs.Encodable.{Encodable, image-encodable}
 use Rattle.exec.specs.State.{base, needed, freshOf}
 use Rattle.machine.specs.Placed.{once-in}
+use Rattle.program.specs.Sound.{Sound}
+use Rattle.program.specs.SoundTree.{sound-resolved}
 use Rattle.simulate.specs.Abstract.{registers, machine, width}
 use Rattle.simulate.specs.Straight.{At, nil, _▸_, Holds, head-at, first-at, rest-at, address}
 use Rattle.simulate.specs.Places.{width-bytes, width-even}
 use Rattle.simulate.specs.Relation.{Setting, Limits, there, Related}
 use Rattle.simulate.specs.Concrete.{Point, Simulated}
-use Rattle.simulate.specs.Statement.{Each, D, N, Sound, Lent}
+use Rattle.simulate.specs.Statement.{Each, D, N, Lent}
 
 -- ── code stands where its bytes were put ──
 
@@ -78,13 +80,13 @@ setting p = record { declarations = p .declarations; code = image p; stack = 2 *
 abbrev pub first-point : Program → List ℕ → Point
 first-point p memory = record { state = freshOf (D p) (N p); words = memory; trace = [] }
 
-module _ (p : Program) (sound : Sound p) (memory : List ℕ) (lent : Lent p memory) where
+module _ (p : Program) (sound : Sound p) (short : length (image p) ≤ 65536) (memory : List ℕ) (lent : Lent p memory) where
   pub limits : Limits (setting p)
-  limits = record { few-data = sound .few-data; short-code = sound .short; few-words = omega (arith, lent .enough, lent .few) }
+  limits = record { few-data = sound .small; short-code = short; few-words = omega (arith, lent .enough, lent .few) }
 
   stands-at-0 : At (image p) 0 (image-code (core-process (p .body)))
   unfolding image
-  stands-at-0 = placed (image p) [] (image-code (core-process (p .body))) 0 (image-encodable p (sound .few-data) (sound .resolved) (sound .short)) refl refl refl
+  stands-at-0 = placed (image p) [] (image-code (core-process (p .body))) 0 (image-encodable p (sound .small) (sound-resolved p sound) (short)) refl refl refl
 
   abbrev first-memory : List (Option ℕ)
   first-memory = blank (take (D p) memory) (2 * N p + 8)
@@ -112,7 +114,7 @@ module _ (p : Program) (sound : Sound p) (memory : List ℕ) (lent : Lent p memo
     target = refl;
     place = (
       (0, there, first-at (process-code (core-process (p .body))) _ stands-at-0, (_, there, head-at (rest-at (process-code (core-process (p .body))) _ stands-at-0))),
-      (record { resolved = sound .resolved; shallow = omega arith }, refl, tt),
+      (record { resolved = sound-resolved p sound; shallow = omega arith }, refl, tt),
     );
     memory = record {
       all = blank-length (take (D p) memory) (2 * N p + 8) ∙ rw declared;

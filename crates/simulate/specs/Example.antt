@@ -24,7 +24,8 @@ use Rattle.machine.specs.Step.{withSecond, fetchOf, onceOf, refusalOf, stepOf}
 use Rattle.machine.specs.Run.{runFrom, runOf}
 use Rattle.machine.specs.Start.{startRefusal, startOf}
 use Rattle.machine.specs.Trace.{listed}
-use Rattle.simulate.specs.Statement.{Sound, Lent, EndsBy, tried, trace-of, started, Demand3}
+use Rattle.program.specs.Sound.{Sound, here}
+use Rattle.simulate.specs.Statement.{Lent, EndsBy, tried, trace-of, started, Demand3}
 use Rattle.simulate.specs.Theorem.{demand3}
 
 -- var x; x := 2 + 3
@@ -40,20 +41,15 @@ unfolding five image image-code process-code expression-code push-constant work-
 five-image = refl
 
 five-sound : Sound five
-unfolding five data-words array-word
-five-sound = record {
-  few-data = lit≤ tt;
-  shallow = lit≤ tt;
-  resolved = (record { inside = lit< tt; apart = refl }, (lit< tt, lit< tt));
-  short = rw five-image (lit≤ tt);
-}
+unfolding five data-words
+five-sound = record { lengths = tt; small = lit≤ tt; names = lit≤ tt; shallow = lit≤ tt; body = (here, (lit< tt, lit< tt)) }
 
 five-lent : Lent five lent-words
 unfolding five lent-words data-words
 five-lent = record { words = omega arith; enough = lit≤ tt; few = lit≤ tt }
 
 five-demand : Demand3 five lent-words
-five-demand = demand3 five five-sound lent-words five-lent
+five-demand = demand3 five five-sound (rw five-image (lit≤ tt)) lent-words five-lent
 
 -- it ends by SVC 0 with 5 in x
 five-ends : EndsBy five 0 (5 ∷ []) (runOf 100 (image five) lent-words (started five lent-words))

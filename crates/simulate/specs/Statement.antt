@@ -18,7 +18,6 @@ use Rattle.word.specs.Choice.{pick}
 use Rattle.word.specs.Access.{Access}
 use Rattle.program.specs.Tree.{Program, data-words, array-word}
 use Rattle.program.specs.Depth.{deepest}
-use Rattle.program.specs.Resolved.{ResolvedProcess}
 use Rattle.meaning.specs.Run.{moves, begin, ends-with}
 use Rattle.rules.specs.Code.{image}
 use Rattle.exec.specs.State.{base, needed, freshOf}
@@ -45,13 +44,6 @@ N p = deepest (p .body)
 
 abbrev pub needs : Program → ℕ
 needs p = needed (D p) (N p)
-
--- what the front end gives of an accepted program: its limits, that every name is declared as it is used and every constant a word, and the image's room
-pub record Sound (p : Program) : Type 0 where
-  pub few-data : D p ≤ 8192
-  pub shallow : N p ≤ 32
-  pub resolved : ResolvedProcess (p .declarations) (p .body)
-  pub short : length (image p) ≤ 65536
 
 -- any words, as many as needed, as many as allowed
 pub record Lent (p : Program) (memory : List ℕ) : Type 0 where

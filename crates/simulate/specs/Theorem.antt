@@ -21,7 +21,8 @@ use Rattle.machine.specs.Run.{RunAfter, run-after, ran, runFrom, runOf}
 use Rattle.machine.specs.Start.{startRefusal, startOf}
 use Rattle.machine.specs.Trace.{listed}
 use Rattle.machine.specs.declared.Started.{Started}
-use Rattle.simulate.specs.Statement.{Each, D, N, needs, Sound, Lent, Call, step, run, tried, Called, call, calls, all-tried, trace-of, started, called, Answered, Orderly, EndsBy, Demand3}
+use Rattle.program.specs.Sound.{Sound}
+use Rattle.simulate.specs.Statement.{Each, D, N, needs, Lent, Call, step, run, tried, Called, call, calls, all-tried, trace-of, started, called, Answered, Orderly, EndsBy, Demand3}
 use Rattle.simulate.specs.Generic.{times, times-stays, sees, reaches}
 use Rattle.simulate.specs.Straight.{address}
 use Rattle.simulate.specs.Relation.{Setting, data-of}
@@ -50,7 +51,7 @@ chain-append : {E : Setting} {x y z : Point} {es fs : List Effect} → Chain E x
 chain-append none d = d
 chain-append (also c) d = also (chain-append c d)
 
-module _ (p : Program) (sound : Sound p) (memory : List ℕ) (lent : Lent p memory) where
+module _ (p : Program) (sound : Sound p) (short : length (image p) ≤ 65536) (memory : List ℕ) (lent : Lent p memory) where
   abbrev E : Setting
   E = setting p
 
@@ -68,7 +69,7 @@ module _ (p : Program) (sound : Sound p) (memory : List ℕ) (lent : Lent p memo
 
   not-refused : (w : List ℕ) → length w ≡ length memory → refusalOf (image p) w ≡ 0
   unfolding refusalOf
-  not-refused w e = rw (le-ltb 65536 (length (image p)) (sound .short), le-ltb 16384 (length w) (omega (arith, lent .few)))
+  not-refused w e = rw (le-ltb 65536 (length (image p)) (short), le-ltb 16384 (length w) (omega (arith, lent .few)))
 
   step-is : (x : Point) → Sees x → stepOf (image p) (x .words) (x .state) ≡ effect-at E x
   unfolding stepOf
@@ -253,17 +254,17 @@ module _ (p : Program) (sound : Sound p) (memory : List ℕ) (lent : Lent p memo
   start-is : startOf (image p) memory (D p) (N p) ≡ record { status = 0; machine = freshOf (D p) (N p) }
   unfolding startOf startRefusal
   start-is =
-      rw (eq-eqb (refusalOf (image p) memory) 0 (not-refused memory refl), le-ltb 8192 (D p) (sound .few-data), le-ltb 32 (N p) (sound .shallow), le-ltb (length memory) (needs p) (lent .enough))
+      rw (eq-eqb (refusalOf (image p) memory) 0 (not-refused memory refl), le-ltb 8192 (D p) (sound .small), le-ltb 32 (N p) (sound .shallow), le-ltb (length memory) (needs p) (lent .enough))
 
   started-is : started p memory ≡ freshOf (D p) (N p)
   started-is = ap (λ (s : Started). s .machine) start-is
 
   seen : Sees (first-point p memory)
-  seen i = sees move (step-point E) state-size (Simulated E memory) (Seen E memory) (seen-back E memory) (simulates-point E (limits p sound memory lent) memory) i (begin p memory) (first-point p memory) (first-simulated p sound memory lent)
+  seen i = sees move (step-point E) state-size (Simulated E memory) (Seen E memory) (seen-back E memory) (simulates-point E (limits p sound short memory lent) memory) i (begin p memory) (first-point p memory) (first-simulated p sound short memory lent)
 
   reached : (j : ℕ) → (n : ℕ) × Simulated E memory (moves j (begin p memory)) (times (step-point E) n (first-point p memory))
   reached j =
-      let r = reaches move (step-point E) state-size (Simulated E memory) (Seen E memory) (seen-back E memory) (simulates-point E (limits p sound memory lent) memory) j (begin p memory) (first-point p memory) (first-simulated p sound memory lent) in
+      let r = reaches move (step-point E) state-size (Simulated E memory) (Seen E memory) (seen-back E memory) (simulates-point E (limits p sound short memory lent) memory) j (begin p memory) (first-point p memory) (first-simulated p sound short memory lent) in
       (r .0, rw moves-times at (r .1))
 
   all-lists : (ks : List Call) → Lists (first-point p memory) (called p memory ks)
@@ -290,14 +291,14 @@ module _ (p : Program) (sound : Sound p) (memory : List ℕ) (lent : Lent p memo
         n,
         ap (λ (m : Machine). trace-of p (tried n (image p) memory m)) started-is
             ∙ tried-trace n (first-point p memory) seen
-            ∙ simulated-trace E (limits p sound memory lent) memory (moves j (begin p memory)) _ r,
+            ∙ simulated-trace E (limits p sound short memory lent) memory (moves j (begin p memory)) _ r,
       )
 
       by-end : (j n : ℕ) → ends-with (moves j (begin p memory) .end) n ≡ true → (i : ℕ) × Simulated E memory (moves j (begin p memory)) (times (step-point E) i (first-point p memory))
           → (l : ℕ) × ((limit : ℕ) → l ≤ limit → EndsBy p n (moves j (begin p memory) .words) (runOf limit (image p) memory (started p memory)))
       by-end j n e (i, r) =
           let s = moves j (begin p memory) in
-          let h = ended-point E (limits p sound memory lent) memory s (times (step-point E) i (first-point p memory)) n r e in
+          let h = ended-point E (limits p sound short memory lent) memory s (times (step-point E) i (first-point p memory)) n r e in
           let at : At s n (times (step-point E) i (first-point p memory)) = (h, one-number (s .end) (h .number) n (h .ends) e) in (
             suc i,
             λ limit b.

@@ -14,14 +14,10 @@ use Rattle.program.specs.Sound.{Sound}
 use Rattle.front.specs.Front.{Outcome, refused, accepted, front}
 use Rattle.front.specs.Refused.{accepted-sound}
 use Rattle.analysis.specs.Analysed.{Found}
-use Rattle.translate.specs.Translate.{Translated, translated, translation, zeros, filled}
+use Rattle.translate.specs.Translate.{Translated, left, translated, translation, zeros, filled}
 use Rattle.rules.specs.Code.{image}
 use Rattle.translate.specs.Room.{Fits, accepted-fits}
 use Rattle.translate.specs.declared.Translation.{Translation}
-
--- the answer with what the call leaves in the buffers
-abbrev pub left : Translation → List ℕ → List ℕ → Translated
-left answer table code = record { answer = answer; table = table; code = code }
 
 -- the first words of a table that holds rows are the rows
 held : (t xs : List ℕ) (n : ℕ) → length xs ≡ n → n ≤ length t → Holds t 0 xs → take n t ≡ xs

@@ -8,7 +8,7 @@ use Rattle.token.specs.Tokens.{Entry}
 use Rattle.grammar.specs.Grammar.{Token, number, name, mark, Constant, literal, named, Specification, val, commented, Expression, single, monadic, diadic, Chain, last, more, Operand, element, bracketed, Process, skip, stop, assign, assign-element, empty, braces, conditional, while, after-comment, Processes, only, followed, Program, program, text-expression, text-chain, text-operand, text-process, text-processes, text-constant, text-specification, text-specifications, text-program}
 use Rattle.grammar.specs.Grammar as grammar
 use Rattle.program.specs.Tree as tree
-use Rattle.grammar.specs.Rows as raw
+use Rattle.grammar.specs.FewRows.{few-P, few-Ss}
 use Rattle.program.specs.Rows.{row-count}
 use Rattle.front.specs.Front.{symbols, text-of, place-of, accepted, front}
 use Rattle.front.specs.Exact.{accepted-is-X}
@@ -19,6 +19,7 @@ use Rattle.names.specs.Complaints.{of-specifications, complaints}
 use Rattle.names.specs.Accepted.{none-right}
 use Rattle.names.specs.ResolvedRows.{count-P}
 use Rattle.names.specs.Scope.{Meaning, unknown, variable, array, constant, Scope, empty-scope, meaning-of, declare, declare-all}
+use Rattle.names.specs.Specified.{count-declared}
 use Rattle.names.specs.Resolve as resolve
 use Rattle.names.specs.Resolve.{value, element-of, assigned, element-assigned}
 use Rattle.rules.specs.Tokens.{tokens-of, process-tokens, list-tokens}
@@ -83,77 +84,15 @@ module _ (text : ℕ → List ℕ) (s : Scope) where
     tokens-L (only p) w = omega (arith, tokens-P p w)
     tokens-L (followed p ps) w = omega (arith, tokens-P p (mark 10 ∷ text-processes ps w), tokens-L ps w)
 
--- ── rows ──
-
-mutual
-  unfolding raw.count-expression
-
-  rows-E : (e : Expression) (w : List Token) → raw.count-expression e + length w ≤ length (text-expression e w)
-  rows-E (single a) w = rows-O a w
-  rows-E (monadic o a) w = omega (arith, rows-O a w)
-  rows-E (diadic o a c) w = omega (arith, rows-O a (mark o ∷ text-chain c o w), rows-C c o w)
-
-  rows-C : (c : Chain) (o : ℕ) (w : List Token) → raw.count-chain c + length w ≤ length (text-chain c o w)
-  rows-C (last a) o w = rows-O a w
-  rows-C (more a c) o w = omega (arith, rows-O a (mark o ∷ text-chain c o w), rows-C c o w)
-
-  rows-O : (a : Operand) (w : List Token) → raw.count-operand a + length w ≤ length (text-operand a w)
-  rows-O (grammar.constant v) w = omega arith
-  rows-O (grammar.variable n) w = omega arith
-  rows-O (element n e) w = omega (arith, rows-E e (mark 7 ∷ w))
-  rows-O (bracketed e) w = omega (arith, rows-E e (mark 5 ∷ w))
-
-mutual
-  unfolding raw.count-process
-
-  rows-P : (p : Process) (w : List Token) → raw.count-process p + length w ≤ length (text-process p w)
-  rows-P skip w = omega arith
-  rows-P stop w = omega arith
-  rows-P (assign n e) w = omega (arith, rows-E e w)
-  rows-P (assign-element n i e) w = omega (arith, rows-E i (mark 7 ∷ mark 12 ∷ text-expression e w), rows-E e w)
-  rows-P empty w = omega arith
-  rows-P (braces ps) w = omega (arith, rows-L ps (mark 9 ∷ w))
-  rows-P (conditional e p q) w = omega (arith, rows-E e (mark 19 ∷ text-process p (mark 20 ∷ text-process q w)), rows-P p (mark 20 ∷ text-process q w), rows-P q w)
-  rows-P (while e p) w = omega (arith, rows-E e (mark 22 ∷ text-process p w), rows-P p w)
-  rows-P (after-comment p) w = omega (arith, rows-P p w)
-
-  rows-L : (ps : Processes) (w : List Token) → raw.count-processes ps + length w ≤ length (text-processes ps w)
-  rows-L (only p) w = rows-P p w
-  rows-L (followed p ps) w = omega (arith, rows-P p (mark 10 ∷ text-processes ps w), rows-L ps w)
-
-constant-text : (c : Constant) (w : List Token) → length (text-constant c w) ≡ suc (length w)
-constant-text (literal v) w = refl
-constant-text (named n) w = refl
-
-rows-S : (d : Specification) (w : List Token) → raw.declared-by d + length w ≤ length (text-specification d w)
-rows-S (grammar.var n) w = omega arith
-rows-S (grammar.array n c) w = omega (arith, constant-text c (mark 7 ∷ w))
-rows-S (val n c) w = omega (arith, constant-text c w)
-rows-S (commented d) w = omega (arith, rows-S d w)
-
-rows-Ss : (ds : List Specification) (w : List Token) → raw.declared-rows ds + length w ≤ length (text-specifications ds w)
-rows-Ss [] w = omega arith
-rows-Ss (d ∷ ds) w = omega (arith, rows-S d (mark 10 ∷ text-specifications ds w), rows-Ss ds w)
-
 module _ (text : ℕ → List ℕ) where
-  declared-count : (d : Specification) (s : Scope) (ds : List tree.Declaration) → length (resolve.declared text d s ds) ≡ raw.declared-by d + length ds
-  declared-count (grammar.var n) s ds = omega arith
-  declared-count (grammar.array n c) s ds = omega arith
-  declared-count (val n c) s ds = omega arith
-  declared-count (commented d) s ds = declared-count d s ds
-
-  declarations-count : (ds : List Specification) (s : Scope) → length (resolve.declarations text ds s) ≡ raw.declared-rows ds
-  declarations-count [] s = refl
-  declarations-count (d ∷ ds) s = declared-count d s (resolve.declarations text ds (declare text d s)) ∙ ap (λ (n : ℕ). raw.declared-by d + n) (declarations-count ds (declare text d s))
-
   -- no more rows than tokens, and the image's own tokens are among them
   pub rows-and-tokens : (place : ℕ → ℕ) (p : Program) → complaints text place p ≡ [] → (row-count (resolve.resolve text p) ≤ length (text-program p)) × (process-tokens (resolve.resolve text p .body) ≤ length (text-program p))
   unfolding row-count
   rows-and-tokens place (program ds p) h =
       let s = declare-all text ds empty-scope in
       let c = count-P text place s p (none-right (of-specifications text place ds empty-scope) _ h) in
-      let n = declarations-count ds empty-scope in
-      (omega (arith, rows-P p [], rows-Ss ds (text-process p [])), omega (arith, tokens-P text s p [], rows-Ss ds (text-process p [])))
+      let n = count-declared text ds empty-scope in
+      (omega (arith, few-P p [], few-Ss ds (text-process p [])), omega (arith, tokens-P text s p [], few-Ss ds (text-process p [])))
 
 -- an accepted source's table and image fit the lent buffers, and the image the machine's code
 pub record Fits (table code : ℕ) (n : ℕ) (q : tree.Program) : Type 0 where

@@ -15,6 +15,10 @@ pub record Translated : Type 0 where
   pub table : List ℕ
   pub code : List ℕ
 
+-- the answer with what the call leaves in the buffers
+abbrev pub left : Translation → List ℕ → List ℕ → Translated
+left answer table code = record { answer = answer; table = table; code = code }
+
 -- so many zeros
 abbrev pub zeros : ℕ → List ℕ
 zeros n = replicate n 0

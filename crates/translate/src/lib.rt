@@ -18,8 +18,8 @@ ghost use Rattle.rules.specs.Code as rules;
 ghost use Rattle.emit.specs.Write.{Room};
 ghost use Rattle.generate.specs.Well.{WellProcess};
 ghost use Rattle.front.specs.Front as front;
-ghost use Rattle.translate.specs.Translate.{filled, translated, translation};
-ghost use Rattle.translate.specs.Filled.{left, Parts};
+ghost use Rattle.translate.specs.Translate.{filled, left, translated, translation};
+ghost use Rattle.translate.specs.Filled.{Parts};
 
 // The answer: document 01's number and place, 0 and 0 where the source is accepted, and the counts, all 0 where it is refused.
 pub struct Translation {

@@ -10,14 +10,14 @@ use Rattle.buffers.proofs.clear_bytes.Reads as reads
 use Rattle.buffers.proofs.clear_bytes.Lts as lts
 
 abbrev Inv-loop : tie.InvT-loop
-Inv-loop bytes₀ n i₀ bytes i = (i ≤ length bytes₀) × (length bytes ≡ length bytes₀) × (cleared bytes i (length bytes₀) ≡ cleared bytes₀ n (length bytes₀))
+Inv-loop bytes₀ n i₀ bytes i = (length bytes ≡ length bytes₀) × (cleared bytes i (length bytes₀) ≡ cleared bytes₀ n (length bytes₀))
 
 abbrev μ-loop : tie.MeasureT-loop
 μ-loop bytes₀ n i₀ bytes i = length bytes₀ - i
 
 -- src/lib.rt:25:5
 loop-holds : tie.Need-loop-holds Inv-loop μ-loop
-loop-holds c = (omega arith, refl, refl)
+loop-holds c = (refl, refl)
 
 -- src/lib.rt:26:9
 slice-write-bytes : tie.Need-slice-write-bytes Inv-loop μ-loop
@@ -35,7 +35,7 @@ loop-less c = omega arith
 loop-again : tie.Need-loop-again Inv-loop μ-loop
 loop-again c =
     let v = c .before .loop .inv in
-    (omega arith, simp length-set (v .1), cleared-more (c .before .loop .bytes) (c .before .loop .i) _ (omega arith) (v .1) ∙ v .2)
+    (simp length-set (v .0), cleared-more (c .before .loop .bytes) (c .before .loop .i) _ (omega arith) (v .0) ∙ v .1)
 
 -- src/lib.rt:20:1
 same-length : tie.Need-same-length Inv-loop μ-loop
@@ -46,7 +46,7 @@ returns : tie.Need-returns Inv-loop μ-loop
 unfolding cleared
 returns c =
     let v = c .before .loop .inv in
-    sym (cleared-all (c .before .loop .bytes) (c .before .loop .i) _ (omega arith) (v .1)) ∙ v .2
+    sym (cleared-all (c .before .loop .bytes) (c .before .loop .i) _ (omega arith) (v .0)) ∙ v .1
 
 pub clear-bytes-spec : {M : Type 1} → statement M
 clear-bytes-spec =

@@ -10,14 +10,14 @@ use Rattle.buffers.proofs.clear_words.Reads as reads
 use Rattle.buffers.proofs.clear_words.Lts as lts
 
 abbrev Inv-loop : tie.InvT-loop
-Inv-loop words₀ n i₀ words i = (i ≤ length words₀) × (length words ≡ length words₀) × (cleared words i (length words₀) ≡ cleared words₀ n (length words₀))
+Inv-loop words₀ n i₀ words i = (length words ≡ length words₀) × (cleared words i (length words₀) ≡ cleared words₀ n (length words₀))
 
 abbrev μ-loop : tie.MeasureT-loop
 μ-loop words₀ n i₀ words i = length words₀ - i
 
 -- src/lib.rt:13:5
 loop-holds : tie.Need-loop-holds Inv-loop μ-loop
-loop-holds c = (omega arith, refl, refl)
+loop-holds c = (refl, refl)
 
 -- src/lib.rt:14:9
 mul-words : tie.Need-mul-words Inv-loop μ-loop
@@ -39,7 +39,7 @@ loop-less c = omega arith
 loop-again : tie.Need-loop-again Inv-loop μ-loop
 loop-again c =
     let v = c .before .loop .inv in
-    (omega arith, simp length-set (v .1), cleared-more (c .before .loop .words) (c .before .loop .i) _ (omega arith) (v .1) ∙ v .2)
+    (simp length-set (v .0), cleared-more (c .before .loop .words) (c .before .loop .i) _ (omega arith) (v .0) ∙ v .1)
 
 -- src/lib.rt:8:1
 same-length : tie.Need-same-length Inv-loop μ-loop
@@ -50,7 +50,7 @@ returns : tie.Need-returns Inv-loop μ-loop
 unfolding cleared
 returns c =
     let v = c .before .loop .inv in
-    sym (cleared-all (c .before .loop .words) (c .before .loop .i) _ (omega arith) (v .1)) ∙ v .2
+    sym (cleared-all (c .before .loop .words) (c .before .loop .i) _ (omega arith) (v .0)) ∙ v .1
 
 pub clear-words-spec : {M : Type 1} → statement M
 clear-words-spec =

@@ -27,7 +27,7 @@ mutual
 mutual
   unfolding count-process
 
-  few-P : (p : Process) (w : List Token) → count-process p + length w ≤ length (text-process p w)
+  pub few-P : (p : Process) (w : List Token) → count-process p + length w ≤ length (text-process p w)
   few-P skip w = omega arith
   few-P stop w = omega arith
   few-P (assign n e) w = omega (arith, few-E e w)
@@ -52,7 +52,7 @@ few-S (array n c) w = omega (arith, constant-text c (mark 7 ∷ w))
 few-S (val n c) w = omega (arith, constant-text c w)
 few-S (commented d) w = omega (arith, few-S d w)
 
-few-Ss : (ds : List Specification) (w : List Token) → declared-rows ds + length w ≤ length (text-specifications ds w)
+pub few-Ss : (ds : List Specification) (w : List Token) → declared-rows ds + length w ≤ length (text-specifications ds w)
 few-Ss [] w = omega arith
 few-Ss (d ∷ ds) w = omega (arith, few-S d (mark 10 ∷ text-specifications ds w), few-Ss ds w)
 
