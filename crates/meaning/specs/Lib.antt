@@ -2,3 +2,4 @@
 pub mod Operators
 pub mod Run
 pub mod Cases
+pub mod Traps
