@@ -101,7 +101,7 @@ pub fn add_row_of_two(table: &mut [u32; 4096], r: Read, kind: u32, a: u32, b: u3
     }
 }
 
-fn is_monadic(k: u8) -> bool
+pub fn is_monadic(k: u8) -> bool
     ensures { λ r. ⌜ r ≡ «is-monadic» k ⌝ }
 {
     if k == 32 { true } else { k == 23 }
@@ -114,7 +114,7 @@ fn monadic_number(k: u8) -> u32
     if k == 32 { 1 } else { 2 }
 }
 
-fn is_diadic(k: u8) -> bool
+pub fn is_diadic(k: u8) -> bool
     ensures { λ r. ⌜ r ≡ «is-diadic» k ⌝ }
 {
     if 31 <= k { k <= 44 } else { false }

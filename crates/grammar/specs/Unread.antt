@@ -34,7 +34,7 @@ module _ (kinds values : List ℕ) where
 pub inside : (kinds : List ℕ) (i k : ℕ) → getD kinds i 0 ≡ k → 0 < k → i < length kinds
 inside kinds i k e p = by-test (λ (b : Bool). i < length kinds) (ltb i (length kinds)) (λ h. ltb-true i (length kinds) h) (λ h. let z = List·getD-eq-default kinds 0 (ltb-false i (length kinds) h) in absurd (omega arith))
 
-token-case : (P : ℕ → Token → Type 0) (i k v : ℕ) → P 1 (number v) → P 2 (name i) → (¬ (k ≡ 1) → ¬ (k ≡ 2) → P k (mark k)) → P k (token-of i k v)
+pub token-case : (P : ℕ → Token → Type 0) (i k v : ℕ) → P 1 (number v) → P 2 (name i) → (¬ (k ≡ 1) → ¬ (k ≡ 2) → P k (mark k)) → P k (token-of i k v)
 token-case P i k v a b c = go (eqb k 1) (eqb k 2) refl refl
   where
     go : (x y : Bool) → eqb k 1 ≡ x → eqb k 2 ≡ y → P k (pick x (number v) (pick y (name i) (mark k)))
@@ -52,7 +52,7 @@ at-diadic i k v = token-case (λ k t. is-diadic (kind-of t) ≡ is-diadic k) i k
 at-monadic : (i k v : ℕ) → is-monadic (kind-of (token-of i k v)) ≡ is-monadic k
 at-monadic i k v = token-case (λ k t. is-monadic (kind-of t) ≡ is-monadic k) i k v refl refl (λ a b. refl)
 
-at-is : (m i k v : ℕ) → 2 < m → is m (token-of i k v) ≡ eqb k m
+pub at-is : (m i k v : ℕ) → 2 < m → is m (token-of i k v) ≡ eqb k m
 at-is m i k v h = token-case (λ k t. is m t ≡ eqb k m) i k v (sym (ne-eqb 1 m (omega arith))) (sym (ne-eqb 2 m (omega arith))) (λ a b. refl)
 
 at-name : (i k v : ℕ) → is-name (token-of i k v) ≡ eqb k 2

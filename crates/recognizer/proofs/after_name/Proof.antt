@@ -1,0 +1,19 @@
+use Rattle.word.specs.Tests.{tests}
+use borrow.Author.Needs.{needs}
+use Rattle.recognizer.proofs.after_name.Statement.{statement}
+use Rattle.recognizer.proofs.after_name.Tie as tie
+
+-- src/lib.rt:351:26
+-- src/lib.rt:351:9
+-- src/lib.rt:351:9
+-- src/lib.rt:353:5
+-- src/lib.rt:347:1
+
+pub after-name-spec : {M : Type 1} → statement M
+after-name-spec =
+    tie.close (tie.spec
+    (λ c κs. search needs)
+    (λ c κs. search needs)
+    (λ c. rw (c .enter .ensures, c .before .deeper .ensures) (search tests depth 20))
+    (λ c κs. search needs)
+    (λ c. rw (c .after-operand .ensures) (search tests depth 20)))

@@ -1,0 +1,34 @@
+use Rattle.word.specs.Tests.{tests}
+use borrow.Author.Needs.{needs}
+use Rattle.recognizer.proofs.after_process.Statement.{statement}
+use Rattle.recognizer.proofs.after_process.Tie as tie
+
+-- src/lib.rt:144:43
+-- src/lib.rt:144:30
+-- src/lib.rt:144:9
+-- src/lib.rt:144:9
+-- src/lib.rt:148:32
+-- src/lib.rt:148:13
+-- src/lib.rt:148:13
+-- src/lib.rt:150:29
+-- src/lib.rt:150:9
+-- src/lib.rt:150:9
+-- src/lib.rt:152:5
+-- src/lib.rt:140:1
+
+pub after-process-spec : {M : Type 1} → statement M
+after-process-spec =
+    tie.close
+    (tie.spec
+    (λ c κs. search needs)
+    (λ c κs. search needs)
+    (λ c κs. search needs)
+    (λ c. rw (c .expect .ensures, c .before .leave .ensures, c .before .before .deeper .ensures) (search tests depth 20))
+    (λ c κs. search needs)
+    (λ c κs. search needs)
+    (λ c. rw (c .stay .ensures, c .before .deeper2 .ensures) (search tests depth 20))
+    (λ c κs. search needs)
+    (λ c κs. search needs)
+    (λ c. rw (c .expect2 .ensures, c .before .leave2 .ensures) (search tests depth 20))
+    (λ c κs. search needs)
+    (λ c. rw (c .refuse .ensures) (search tests depth 20)))

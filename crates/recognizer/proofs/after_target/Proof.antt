@@ -1,0 +1,19 @@
+use Rattle.word.specs.Tests.{tests}
+use borrow.Author.Needs.{needs}
+use Rattle.recognizer.proofs.after_target.Statement.{statement}
+use Rattle.recognizer.proofs.after_target.Tie as tie
+
+-- src/lib.rt:318:9
+-- src/lib.rt:318:9
+-- src/lib.rt:320:18
+-- src/lib.rt:320:5
+-- src/lib.rt:314:1
+
+pub after-target-spec : {M : Type 1} → statement M
+after-target-spec =
+    tie.close (tie.spec
+    (λ c κs. search needs)
+    (λ c. rw (c .stay .ensures) (search tests depth 20))
+    (λ c κs. search needs)
+    (λ c κs. search needs)
+    (λ c. rw (c .expect .ensures, c .before .enter .ensures) (search tests depth 20)))

@@ -1,0 +1,12 @@
+use Rattle.word.specs.Tests.{tests}
+use borrow.Author.Needs.{needs}
+use Rattle.recognizer.proofs.choose.Statement.{statement}
+use Rattle.recognizer.proofs.choose.Tie as tie
+
+-- src/lib.rt:113:16
+-- src/lib.rt:107:1
+
+pub choose-spec : {M : Type 1} → statement M
+choose-spec = tie.close (tie.spec
+    (λ c κs. search needs)
+    (λ c. rw (c .deeper .ensures) (search tests depth 20)))

@@ -1,0 +1,26 @@
+use Rattle.word.specs.Tests.{tests}
+use borrow.Author.Needs.{needs}
+use Rattle.recognizer.proofs.decide.Statement.{statement}
+use Rattle.recognizer.proofs.decide.Tie as tie
+
+-- src/lib.rt:368:9
+-- src/lib.rt:368:9
+-- src/lib.rt:371:9
+-- src/lib.rt:371:9
+-- src/lib.rt:374:9
+-- src/lib.rt:374:9
+-- src/lib.rt:376:5
+-- src/lib.rt:364:1
+
+pub decide-spec : {M : Type 1} → statement M
+decide-spec =
+    tie.close
+    (tie.spec
+    (λ c κs. search needs)
+    (λ c. rw (c .start-program .ensures) (search tests depth 20))
+    (λ c κs. search needs)
+    (λ c. rw (c .specify .ensures) (search tests depth 20))
+    (λ c κs. search needs)
+    (λ c. rw (c .in-process .ensures) (search tests depth 20))
+    (λ c κs. search needs)
+    (λ c. rw (c .in-expression .ensures) (search tests depth 20)))

@@ -1,0 +1,19 @@
+use Rattle.word.specs.Tests.{tests}
+use borrow.Author.Needs.{needs}
+use Rattle.recognizer.proofs.expect_constant.Statement.{statement}
+use Rattle.recognizer.proofs.expect_constant.Tie as tie
+
+-- src/lib.rt:258:9
+-- src/lib.rt:258:9
+-- src/lib.rt:260:18
+-- src/lib.rt:260:5
+-- src/lib.rt:254:1
+
+pub expect-constant-spec : {M : Type 1} → statement M
+expect-constant-spec =
+    tie.close (tie.spec
+    (λ c κs. search needs)
+    (λ c. rw (c .stay .ensures) (search tests depth 20))
+    (λ c κs. search needs)
+    (λ c κs. search needs)
+    (λ c. rw (c .expect .ensures, c .before .stay2 .ensures) (search tests depth 20)))

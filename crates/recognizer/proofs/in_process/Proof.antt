@@ -1,0 +1,38 @@
+use Rattle.word.specs.Tests.{tests}
+use borrow.Author.Needs.{needs}
+use Rattle.recognizer.proofs.in_process.Statement.{statement}
+use Rattle.recognizer.proofs.in_process.Tie as tie
+
+-- src/lib.rt:328:9
+-- src/lib.rt:328:9
+-- src/lib.rt:332:13
+-- src/lib.rt:332:13
+-- src/lib.rt:334:30
+-- src/lib.rt:334:9
+-- src/lib.rt:334:9
+-- src/lib.rt:337:9
+-- src/lib.rt:337:9
+-- src/lib.rt:340:30
+-- src/lib.rt:340:9
+-- src/lib.rt:340:9
+-- src/lib.rt:342:5
+-- src/lib.rt:324:1
+
+pub in-process-spec : {M : Type 1} → statement M
+in-process-spec =
+    tie.close
+    (tie.spec
+    (λ c κs. search needs)
+    (λ c. rw (c .start-process .ensures) (search tests depth 20))
+    (λ c κs. search needs)
+    (λ c. rw (c .leave .ensures) (search tests depth 20))
+    (λ c κs. search needs)
+    (λ c κs. search needs)
+    (λ c. rw (c .start-process2 .ensures, c .before .deeper .ensures) (search tests depth 20))
+    (λ c κs. search needs)
+    (λ c. rw (c .after-target .ensures) (search tests depth 20))
+    (λ c κs. search needs)
+    (λ c κs. search needs)
+    (λ c. rw (c .expect .ensures, c .before .stay .ensures) (search tests depth 20))
+    (λ c κs. search needs)
+    (λ c. rw (c .after-process .ensures) (search tests depth 20)))

@@ -1,0 +1,42 @@
+use Rattle.recognizer.specs.Stack.{frames-none, frames-some}
+use native.Mathlib.Omega.{arith}
+use Prim.Native.Nat.{_-_}
+use borrow.Author.Needs.{needs}
+use Rattle.recognizer.proofs.innermost.Statement.{statement}
+use Rattle.recognizer.proofs.innermost.Tie as tie
+
+-- src/lib.rt:394:9
+-- src/lib.rt:394:9
+-- src/lib.rt:396:13
+-- src/lib.rt:398:21
+-- src/lib.rt:398:15
+-- src/lib.rt:398:15
+-- src/lib.rt:399:25
+-- src/lib.rt:399:25
+-- src/lib.rt:399:19
+-- src/lib.rt:399:19
+-- src/lib.rt:400:22
+-- src/lib.rt:400:22
+-- src/lib.rt:400:16
+-- src/lib.rt:400:16
+-- src/lib.rt:389:1
+
+pub innermost-spec : {M : Type 1} → statement M
+innermost-spec =
+    tie.close
+    (tie.spec
+    (λ c κs. search needs)
+    (λ c. rw (frames-none _ _ (c .before .if1 .taken)) (c .no-frame .ensures))
+    (λ c. search needs)
+    (λ c. search needs)
+    (λ c. search needs)
+    (λ c. search needs)
+    (λ c. search needs)
+    (λ c. search needs)
+    (λ c. search needs)
+    (λ c. search needs)
+    (λ c. search needs)
+    (λ c. search needs)
+    (λ c. search needs)
+    (λ c. search needs)
+    (λ c. rw (frames-some (c .before .before .before .before .args .table .now) (c .before .before .before .before .args .height) (c .before .before .before .before .args .height - 1) (omega (arith, c .before .before .before .if1 .left))) (search needs)))

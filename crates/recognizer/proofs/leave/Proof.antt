@@ -1,0 +1,12 @@
+use Rattle.word.specs.Tests.{tests}
+use borrow.Author.Needs.{needs}
+use Rattle.recognizer.proofs.leave.Statement.{statement}
+use Rattle.recognizer.proofs.leave.Tie as tie
+
+-- src/lib.rt:85:17
+-- src/lib.rt:77:1
+
+pub leave-spec : {M : Type 1} → statement M
+leave-spec = tie.close (tie.spec
+    (λ c κs. search needs)
+    (λ c. rw (c .no-frame .ensures) (search tests depth 20)))

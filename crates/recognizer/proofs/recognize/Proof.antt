@@ -1,0 +1,49 @@
+use mathlib.Core.Path.{_≡_, refl, sym, ap, subst, _∙_}
+use mathlib.Core.List.{List}
+use Prim.Native.Nat.{ℕ, _+_, _-_, _≤_}
+use lib.ListN.{length}
+use native.Mathlib.Omega.{arith}
+use borrow.Author.Needs.{needs}
+use Rattle.recognizer.specs.Pushdown.{frames, ends-at}
+use Rattle.recognizer.specs.Stack.{viewed, length-frames}
+use Rattle.recognizer.specs.Recognized.{Says, ended, Stands, stands-first, stands-bad, stands-next, stands-last}
+use Rattle.grammar.specs.Automaton.{reads}
+use Rattle.grammar.specs.Tokens.{unread}
+use Rattle.recognizer.proofs.recognize.Statement.{statement}
+use Rattle.recognizer.proofs.recognize.Tie as tie
+
+abbrev Inv-loop : tie.InvT-loop
+Inv-loop kinds table₀ c₀ deep₀ i₀ table c deep i = (i ≤ length kinds) × (c .height ≤ i) × (length table ≡ 4096) × ((values : List ℕ) → Stands kinds values i (viewed table c) deep)
+
+abbrev μ-loop : tie.MeasureT-loop
+μ-loop kinds table₀ c₀ deep₀ i₀ table c deep i = length kinds - i
+
+-- src/lib.rt:501:5
+-- src/lib.rt:502:31
+-- src/lib.rt:502:9
+-- src/lib.rt:504:13
+-- src/lib.rt:506:9
+-- src/lib.rt:507:9
+-- src/lib.rt:501:5
+-- src/lib.rt:501:5
+-- src/lib.rt:509:12
+-- src/lib.rt:509:5
+-- src/lib.rt:489:1
+
+pub recognize-spec : {M : Type 1} → statement M
+recognize-spec =
+    tie.close
+    (tie.spec
+    Inv-loop
+    μ-loop
+    (λ c. unfold frames in (omega arith, omega arith, c .before .pre .1, λ values. stands-first _ values))
+    (λ c. search needs)
+    (λ c κs. let v = c .before .before .before .loop in (v .inv .2, omega (arith, v .inv .1)))
+    (λ c. let v = c .before .before .before .before .before .before .loop in let a = c .before .before .advance .ensures in (λ values. stands-bad _ values (v .i) (omega arith) _ _ (v .deep) (v .inv .3 values) (a .0) (c .if1 .taken), a .2))
+    (λ c κs. search needs)
+    (λ c. omega arith)
+    (λ c. omega arith)
+    (λ c. let v = c .before .before .before .before .before .before .before .loop in let a = c .before .before .before .advance .ensures in (omega arith, omega (arith, a .1, v .inv .1), a .2, λ values. rw (c .sinks .ensures) (stands-next _ values (v .i) (omega arith) _ _ (v .deep) (v .inv .3 values) (a .0) (c .before .if1 .left))))
+    (λ c κs. search needs)
+    (λ c κs. search needs)
+    (λ c. let v = c .before .before .before .loop in (λ values. rw (c .at-end .ensures, c .before .complete .ensures) (subst (λ (h : ℕ). Says (length (c .before .before .before .before .before .args .kinds .now)) (reads (unread (c .before .before .before .before .before .args .kinds .now) values 0)) (ended (ends-at (v .c .mode) h) (v .deep) (v .i))) (length-frames (v .table) (v .c .height)) (stands-last _ values (v .i) _ (v .deep) (v .inv .3 values) (v .inv .0) (omega arith))), v .inv .2)))

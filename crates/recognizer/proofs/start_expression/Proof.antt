@@ -1,0 +1,22 @@
+use Rattle.word.specs.Tests.{tests}
+use borrow.Author.Needs.{needs}
+use Rattle.recognizer.proofs.start_expression.Statement.{statement}
+use Rattle.recognizer.proofs.start_expression.Tie as tie
+
+-- src/lib.rt:223:8
+-- src/lib.rt:224:28
+-- src/lib.rt:224:9
+-- src/lib.rt:224:9
+-- src/lib.rt:226:5
+-- src/lib.rt:220:1
+
+pub start-expression-spec : {M : Type 1} → statement M
+start-expression-spec =
+    tie.close
+    (tie.spec
+    (λ c κs. search needs)
+    (λ c κs. search needs)
+    (λ c κs. search needs)
+    (λ c. rw (c .stay .ensures, c .before .deeper .ensures) (search tests depth 20))
+    (λ c κs. search needs)
+    (λ c. rw (c .start-operand .ensures) (search tests depth 20)))

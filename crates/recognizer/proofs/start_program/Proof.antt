@@ -1,0 +1,30 @@
+use Rattle.word.specs.Tests.{tests}
+use borrow.Author.Needs.{needs}
+use Rattle.recognizer.proofs.start_program.Statement.{statement}
+use Rattle.recognizer.proofs.start_program.Tie as tie
+
+-- src/lib.rt:299:9
+-- src/lib.rt:299:9
+-- src/lib.rt:302:9
+-- src/lib.rt:302:9
+-- src/lib.rt:305:9
+-- src/lib.rt:305:9
+-- src/lib.rt:308:9
+-- src/lib.rt:308:9
+-- src/lib.rt:310:5
+-- src/lib.rt:295:1
+
+pub start-program-spec : {M : Type 1} → statement M
+start-program-spec =
+    tie.close
+    (tie.spec
+    (λ c κs. search needs)
+    (λ c. rw (c .stay .ensures) (search tests depth 20))
+    (λ c κs. search needs)
+    (λ c. rw (c .stay2 .ensures) (search tests depth 20))
+    (λ c κs. search needs)
+    (λ c. rw (c .stay3 .ensures) (search tests depth 20))
+    (λ c κs. search needs)
+    (λ c. rw (c .stay4 .ensures) (search tests depth 20))
+    (λ c κs. search needs)
+    (λ c. rw (c .start-process .ensures) (search tests depth 20)))

@@ -1,0 +1,12 @@
+use Rattle.word.specs.Tests.{tests}
+use borrow.Author.Needs.{needs}
+use Rattle.recognizer.proofs.stay.Statement.{statement}
+use Rattle.recognizer.proofs.stay.Tie as tie
+
+-- src/lib.rt:72:17
+-- src/lib.rt:64:1
+
+pub stay-spec : {M : Type 1} → statement M
+stay-spec = tie.close (tie.spec
+    (λ c κs. search needs)
+    (λ c. rw (c .no-frame .ensures) (search tests depth 20)))

@@ -1,0 +1,6 @@
+-- What the recognizer promises, and the laws behind it.
+pub mod Pushdown
+pub mod Stack
+pub mod Follows
+pub mod Nested
+pub mod Recognized

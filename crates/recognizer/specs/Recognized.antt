@@ -1,0 +1,111 @@
+-- What the recognizer's answer says of the tokens, and why. Definitions and laws; rests on Follows and Nested.
+use mathlib.Core.Path.{_≡_, refl, sym, ap, subst, _∙_}
+use mathlib.Core.Bool.{Bool, true, false}
+use mathlib.Core.List.{List, [], _∷_}
+use Prim.Native.Nat.{ℕ, suc, _+_, _-_, _<_, _≤_, max}
+use native.Mathlib.Omega.{arith}
+use lib.Dec.{eqb}
+use lib.ListN.{length, getD}
+use borrow.Author.Tests.{eqb-true, eqb-false}
+use Rattle.word.specs.Choice.{pick, by-test}
+use Rattle.grammar.specs.Grammar.{Token, Program}
+use Rattle.grammar.specs.Automaton.{Partial, var-read, array-read, array-named, array-opened, array-sized, val-read, val-named, val-equated, whole, State, at-front, specifying, need-process, brace-opened, target, target-element, have-process, need-expression, need-operand, name-read, have-operand, have-expression, Move, go, none, step, Reading, accepted, refused, final, onward, run, reads}
+use Rattle.grammar.specs.Tokens.{token-of, unread}
+use Rattle.grammar.specs.Unread.{unread-cons, unread-end, length-unread}
+use Rattle.grammar.specs.Depth.{depth, deepest}
+use Rattle.recognizer.specs.declared.Control.{Control}
+use Rattle.recognizer.specs.declared.Recognized.{Recognized}
+use Rattle.recognizer.specs.declared.Recognized.the-variants as answer
+use Rattle.recognizer.specs.Pushdown.{Configuration, at, configuration, mode-partial, advance, doing, act, complete, ends-at, sinks}
+use Rattle.recognizer.specs.Follows.{Agrees, follows, Ends, finishes}
+use Rattle.recognizer.specs.Nested.{Deep, deep-there, deep-on}
+
+-- no state is refused
+lives-partial : (x : Partial) → mode-partial x ≡ 19 → ⊥
+lives-partial var-read e = omega (arith, e)
+lives-partial array-read e = omega (arith, e)
+lives-partial (array-named x) e = omega (arith, e)
+lives-partial (array-opened x) e = omega (arith, e)
+lives-partial (array-sized x c) e = omega (arith, e)
+lives-partial val-read e = omega (arith, e)
+lives-partial (val-named x) e = omega (arith, e)
+lives-partial (val-equated x) e = omega (arith, e)
+lives-partial (whole s) e = omega (arith, e)
+
+lives : (s : State) → configuration s .mode ≡ 19 → ⊥
+lives (at-front b n) e = omega (arith, e)
+lives (specifying b n x) e = lives-partial x e
+lives (need-process c) e = omega (arith, e)
+lives (brace-opened c) e = omega (arith, e)
+lives (target n c) e = omega (arith, e)
+lives (target-element n s c) e = omega (arith, e)
+lives (have-process p c) e = omega (arith, e)
+lives (need-expression c) e = omega (arith, e)
+lives (need-operand c) e = omega (arith, e)
+lives (name-read n c) e = omega (arith, e)
+lives (have-operand a c) e = omega (arith, e)
+lives (have-expression x c) e = omega (arith, e)
+
+-- the answer of n tokens that read as r
+abbrev pub Says : ℕ → Reading → Recognized → Type 0
+Says n r answer.Program = (p : Program) × (r ≡ accepted p)
+Says n r answer.Deep = (p : Program) × (r ≡ accepted p) × (32 < max (depth p) (deepest p))
+Says n r (answer.Bad x) = (u : List Token) × (r ≡ refused u) × (x + length u ≡ n)
+
+abbrev pub ended : Bool → Bool → ℕ → Recognized
+ended complete deep n = pick complete (pick deep answer.Deep answer.Program) (answer.Bad n)
+
+module _ (kinds values : List ℕ) where
+  -- the automaton's state at token i is that of the configuration; where level 32 was reached, all it accepts is too deep
+  pub record Stands (i : ℕ) (c : Configuration) (deep : Bool) : Type 0 where
+    pub state : State
+    pub same : configuration state ≡ c
+    pub comes : reads (unread kinds values 0) ≡ run (unread kinds values i) state
+    pub sunk : deep ≡ true → Deep state
+
+  pub stands-first : Stands 0 (at 0 0 0 []) false
+  unfolding reads
+  stands-first = record { state = at-front [] 0; same = refl; comes = refl; sunk = λ e. let z : _≡_ {A = ℕ} 0 1 = cc in absurd (omega arith) }
+
+  module _ (i : ℕ) (b : i < length kinds) (c c′ : Configuration) (deep : Bool) (h : Stands i c deep) (e : c′ ≡ advance c (getD kinds i 0)) where
+    abbrev t : Token
+    t = token-of i (getD kinds i 0) (getD values i 0)
+
+    onto : Agrees (step (h .state) t) (doing c (getD kinds i 0)) (c .stack)
+    onto = subst (λ (d : Configuration). Agrees (step (h .state) t) (doing d (getD kinds i 0)) (d .stack)) (h .same) (follows (h .state) i (getD kinds i 0) (getD values i 0))
+
+    after : (m : Move) → step (h .state) t ≡ m → reads (unread kinds values 0) ≡ onward m (unread kinds values i) (run (unread kinds values (i + 1)))
+    unfolding run
+    after m q = h .comes ∙ ap (λ (w : List Token). run w (h .state)) (unread-cons kinds values i b) ∙ ap (λ (m : Move). onward m (t ∷ unread kinds values (i + 1)) (run (unread kinds values (i + 1)))) q ∙ ap (λ (w : List Token). onward m w (run (unread kinds values (i + 1)))) (sym (unread-cons kinds values i b))
+
+    pub stands-bad : c′ .mode ≡ 19 → Says (length kinds) (reads (unread kinds values 0)) (answer.Bad i)
+    stands-bad z = by (step (h .state) t) refl onto
+      where
+        by : (m : Move) → step (h .state) t ≡ m → Agrees m (doing c (getD kinds i 0)) (c .stack) → Says (length kinds) (reads (unread kinds values 0)) (answer.Bad i)
+        by none q g = (unread kinds values i, after none q, omega (arith, b, length-unread kinds values i))
+        by (go s) q g = absurd (lives s (ap (λ (d : Configuration). d .mode) (sym g ∙ sym e) ∙ z))
+
+    pub stands-next : ¬ (c′ .mode ≡ 19) → Stands (i + 1) c′ (sinks deep (c′ .level))
+    stands-next z = by (step (h .state) t) refl onto
+      where
+        by : (m : Move) → step (h .state) t ≡ m → Agrees m (doing c (getD kinds i 0)) (c .stack) → Stands (i + 1) c′ (sinks deep (c′ .level))
+        by none q g = absurd (z (ap (λ (d : Configuration). d .mode) e ∙ g))
+        by (go s) q g =
+            record {
+              state = s;
+              same = sym g ∙ sym e;
+              comes = after (go s) q;
+              sunk = λ y. by-test (λ (x : Bool). Deep s) (eqb (c′ .level) 32) (λ x. deep-there s (ap (λ (d : Configuration). d .level) (sym g ∙ sym e) ∙ eqb-true (c′ .level) 32 x)) (λ x. deep-on (h .state) s t q (h .sunk (ap (λ (w : Bool). pick w true deep) (sym x) ∙ y)));
+            }
+
+  pub stands-last : (i : ℕ) (c : Configuration) (deep : Bool) → Stands i c deep → i ≤ length kinds → length kinds ≤ i → Says (length kinds) (reads (unread kinds values 0)) (ended (complete c) deep i)
+  unfolding run
+  stands-last i c deep h a b = subst (λ (d : Configuration). Says (length kinds) (reads (unread kinds values 0)) (ended (complete d) deep i)) (h .same) (by (final (h .state)) (complete (configuration (h .state))) refl (finishes (h .state)) deep (h .sunk))
+    where
+      there : reads (unread kinds values 0) ≡ final (h .state)
+      there = h .comes ∙ ap (λ (w : List Token). run w (h .state)) (unread-end kinds values i b)
+
+      by : (r : Reading) (x : Bool) → final (h .state) ≡ r → Ends r x → (y : Bool) → (y ≡ true → Deep (h .state)) → Says (length kinds) (reads (unread kinds values 0)) (ended x y i)
+      by (refused u) x q g y k = rw (g .1) (u, there ∙ q, omega (arith, a, b, ap length (g .0)))
+      by (accepted p) x q g true k = rw g (p, there ∙ q, k refl [] p q)
+      by (accepted p) x q g false k = rw g (p, there ∙ q)
