@@ -1,3 +1,4 @@
 -- What the readers of processes promise, and the laws behind it.
 pub mod Forms
 pub mod Processes
+pub mod Lists

@@ -1,10 +1,14 @@
 -- What the answer of a reader of processes says, from what its calls' say. Laws; rests on the laws of the expressions' readers.
-use mathlib.Core.Path.{_≡_, refl, ap, _∙_}
+use mathlib.Core.Path.{_≡_, refl, ap, subst, _∙_}
 use mathlib.Core.List.{List}
-use Prim.Native.Nat.{ℕ, _+_, _-_, _*_, _≤_, max}
+use Prim.Native.Nat.{ℕ, zero, suc, _+_, _-_, _*_, _<_, _≤_, max}
 use native.Mathlib.Omega.{arith}
+use mathlib.Core.Bool.{Bool}
+use lib.Dec.{ltb}
 use lib.ListN.{length, getD}
 use lib.Seq.{sets}
+use borrow.Author.Tests.{ltb-true, ltb-false}
+use Rattle.word.specs.Choice.{by-test}
 use Rattle.token.specs.Kinds as kind
 use Rattle.grammar.specs.Grammar.{Expression, skip, stop, assign, assign-element, empty, braces, conditional, while, after-comment, only, followed}
 use Rattle.grammar.specs.Automaton.{ProcessContext, in-braces, in-then, in-else, in-body, in-comment, opened, also, in-assign, in-target, in-assign-element, in-if, in-while, need-process, target-element, have-process, need-expression, run}
@@ -17,7 +21,7 @@ use Rattle.expressions.specs.Reads.{Form, Reads, expression-form, closed, deepe
 use Rattle.expressions.specs.Parts.{table-one, table-two, table-three, closing, close-part}
 use Rattle.expressions.specs.declared.Read.{Read}
 use Rattle.expressions.specs.declared.Read.the-variants.{Done, Bad}
-use Rattle.processes.specs.Forms.{process-form, list-form}
+use Rattle.processes.specs.Forms.{process-form, list-form, Comments}
 
 -- a part, with the token that closes it
 abbrev pub subscript-form : ℕ → Form
@@ -258,3 +262,24 @@ module _ (kinds values : List ℕ) (i n : ℕ) (t : List ℕ) where
             },
           )
       process-if k l p₁ d₁ t₂ g (Bad x) t₃ z = (z .0, λ K. into-if K ∙ h .1 .comes K ∙ g .1 .comes K ∙ z .1 (in-else (h .1 .tree) (g .1 .tree) K))
+
+-- any number of comments adds nothing
+pub comments-none : (kinds : List ℕ) (i : ℕ) → i ≤ length kinds → Comments kinds i i
+comments-none kinds i l = record { from = omega arith; short = l; all = λ x a b. absurd (omega arith) }
+
+pub comments-more : (kinds : List ℕ) (i j : ℕ) → Comments kinds i j → getD kinds j 0 ≡ kind.comment → Comments kinds i (j + 1)
+comments-more kinds i j g e =
+    let f = g .from in
+    let l = inside kinds j kind.comment e (omega arith) in
+    record {
+      from = omega arith;
+      short = omega arith;
+      all = λ x a b. by-test (λ (q : Bool). getD kinds x 0 ≡ kind.comment) (ltb x j) (λ q. g .all x a (ltb-true x j q)) (λ q. let z = ltb-false x j q in subst (λ (y : ℕ). getD kinds y 0 ≡ kind.comment) (let w : j ≡ x = omega arith in w) e);
+    }
+
+comments-before : (c : ℕ) (kinds values : List ℕ) (i j n : ℕ) (t : List ℕ) (r : Read) (t′ : List ℕ) → i + c ≡ j → ((x : ℕ) → i ≤ x → x < j → getD kinds x 0 ≡ kind.comment) → Reads process-form kinds values j n t r t′ → Reads process-form kinds values i n t r t′
+comments-before zero kinds values i j n t r t′ e all h = subst (λ (x : ℕ). Reads process-form kinds values x n t r t′) (omega arith) h
+comments-before (suc c) kinds values i j n t r t′ e all h = process-comment kinds values i n t r t′ (all i (omega arith) (omega arith)) (comments-before c kinds values (i + 1) j n t r t′ (omega arith) (λ x l m. all x (omega arith) m) h)
+
+pub process-comments : (kinds values : List ℕ) (i j n : ℕ) (t : List ℕ) (r : Read) (t′ : List ℕ) → Comments kinds i j → Reads process-form kinds values j n t r t′ → Reads process-form kinds values i n t r t′
+process-comments kinds values i j n t r t′ g h = let l = g .from in comments-before (j - i) kinds values i j n t r t′ (omega arith) (g .all) h

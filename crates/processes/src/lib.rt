@@ -9,10 +9,11 @@ use expressions::kind_at;
 use expressions::larger;
 use expressions::put;
 ghost use mathlib.Core.Path.{_≡_};
-ghost use Prim.Native.Nat.{_+_};
-ghost use lib.ListN.{getD};
+ghost use Prim.Native.Nat.{_+_, _<_, _≤_};
+ghost use lib.ListN.{length, getD};
 ghost use Rattle.expressions.specs.Reads.{Reads, Fit};
-ghost use Rattle.processes.specs.Forms.{«process-form», «list-form»};
+ghost use Rattle.processes.specs.Forms.{«process-form», «list-form», Comments};
+ghost use Rattle.processes.specs.Lists.{Kept, joints};
 
 // `n [ e ] := e` at token i.
 fn element_assignment(
@@ -54,87 +55,168 @@ fn assignment(kinds: &[u8], values: &[u32], table: &mut [u32; 4096], n: usize, i
     Read::Bad(i + 1)
 }
 
-// A process at token i; its rows are from row n on.
-pub fn process(kinds: &[u8], values: &[u32], table: &mut [u32; 4096], n: usize, i: usize) -> Read
-    requires { ⌜ Fit (now kinds) (now values) n i ⌝ }
-    ensures { λ r. ⌜ Reads «process-form» (now (kinds .entry)) (now (values .entry)) i n (now (table .entry)) r (now (table .exit)) ⌝ }
+// The first token from i on that is no comment.
+fn past_comments(kinds: &[u8], i: usize) -> usize
+    requires { ⌜ i ≤ length (now kinds) ⌝ }
+    ensures { λ j. ⌜ (Comments (now (kinds .entry)) i j) × (getD (now (kinds .entry)) j 0 ≡ 3 → ⊥) ⌝ }
 {
-    let k = kind_at(kinds, i);
+    let mut j = i;
+    while kind_at(kinds, j) == 3 {
+        j += 1;
+    }
+    j
+}
+
+// Row number m goes to place k.
+fn push(pending: &mut [u16], k: usize, m: u16)
+    requires { ⌜ k < length (now pending) ⌝ }
+    ensures { λ _. ⌜ (getD (now (pending .exit)) k 0 ≡ m) × (Kept (now (pending .entry)) (now (pending .exit)) k) ⌝ }
+{
+    pending[k] = m;
+}
+
+fn wide(x: u16) -> u32
+    ensures { λ r. ⌜ r ≡ x ⌝ }
+{
+    x as u32
+}
+
+// The joints of the `count` processes whose last rows wait from `top` on, the last process first; m is the first free row.
+fn join(table: &mut [u32; 4096], pending: &[u16; 1024], top: usize, count: usize, m: usize)
+    requires { ⌜ (0 < m) × (m + count ≤ 1024) × (top + count ≤ 1024) ⌝ }
+    ensures { λ _. ⌜ now (table .exit) ≡ joints (now (table .entry)) m (now (pending .entry)) top count ⌝ }
+{
+    let mut c = count;
+    let mut row = m;
+    while 0 < c {
+        c -= 1;
+        put(table, row, 12, wide(pending[top + c]), (row - 1) as u32, 0);
+        row += 1;
+    }
+}
+
+// A process at token i; its rows are from row n on. Lists around it use `pending` below `top`.
+pub fn process(
+    kinds: &[u8],
+    values: &[u32],
+    table: &mut [u32; 4096],
+    pending: &mut [u16; 1024],
+    n: usize,
+    i: usize,
+    top: usize,
+) -> Read
+    requires { ⌜ (Fit (now kinds) (now values) n i) × (top ≤ i) ⌝ }
+    ensures { λ r. ⌜ (Reads «process-form» (now (kinds .entry)) (now (values .entry)) i n (now (table .entry)) r (now (table .exit))) × (Kept (now (pending .entry)) (now (pending .exit)) top) ⌝ }
+{
+    let j = past_comments(kinds, i);
+    let k = kind_at(kinds, j);
     if k == 16 {
         put(table, n, 8, 0, 0, 0);
-        return Read::Done(i + 1, n + 1, 1, 0);
+        return Read::Done(j + 1, n + 1, 1, 0);
     }
     if k == 17 {
         put(table, n, 9, 0, 0, 0);
-        return Read::Done(i + 1, n + 1, 1, 0);
+        return Read::Done(j + 1, n + 1, 1, 0);
     }
     if k == 2 {
-        return assignment(kinds, values, table, n, i);
+        return assignment(kinds, values, table, n, j);
     }
     if k == 8 {
-        return braces(kinds, values, table, n, i);
+        return braces(kinds, values, table, pending, n, j, top);
     }
     if k == 18 {
-        return conditional(kinds, values, table, n, i);
+        return conditional(kinds, values, table, pending, n, j, top);
     }
     if k == 21 {
-        return repetition(kinds, values, table, n, i);
+        return repetition(kinds, values, table, pending, n, j, top);
     }
-    if k == 3 {
-        return process(kinds, values, table, n, i + 1);
-    }
-    Read::Bad(i)
+    Read::Bad(j)
 }
 
 // Braces, which open at token i.
-fn braces(kinds: &[u8], values: &[u32], table: &mut [u32; 4096], n: usize, i: usize) -> Read
-    requires { ⌜ (Fit (now kinds) (now values) n i) × (getD (now kinds) i 0 ≡ 8) ⌝ }
-    ensures { λ r. ⌜ Reads «process-form» (now (kinds .entry)) (now (values .entry)) i n (now (table .entry)) r (now (table .exit)) ⌝ }
+fn braces(
+    kinds: &[u8],
+    values: &[u32],
+    table: &mut [u32; 4096],
+    pending: &mut [u16; 1024],
+    n: usize,
+    i: usize,
+    top: usize,
+) -> Read
+    requires { ⌜ (Fit (now kinds) (now values) n i) × (getD (now kinds) i 0 ≡ 8) × (top ≤ i) ⌝ }
+    ensures { λ r. ⌜ (Reads «process-form» (now (kinds .entry)) (now (values .entry)) i n (now (table .entry)) r (now (table .exit))) × (Kept (now (pending .entry)) (now (pending .exit)) top) ⌝ }
 {
     if kind_at(kinds, i + 1) == 9 {
         put(table, n, 8, 0, 0, 0);
         return Read::Done(i + 2, n + 1, 1, 0);
     }
-    let r = list(kinds, values, table, n, i + 1);
+    let r = list(kinds, values, table, pending, n, i + 1, top);
     deepen(r, 0, 0, 1, 0)
 }
 
-// The processes from token i on, up to the closing brace, grouped to the right.
-fn list(kinds: &[u8], values: &[u32], table: &mut [u32; 4096], n: usize, i: usize) -> Read
-    requires { ⌜ Fit (now kinds) (now values) n i ⌝ }
-    ensures { λ r. ⌜ Reads «list-form» (now (kinds .entry)) (now (values .entry)) i n (now (table .entry)) r (now (table .exit)) ⌝ }
+// The processes from token i on, up to the closing brace, grouped to the right: each one's last row waits in `pending` until its joint is written, after the list.
+fn list(
+    kinds: &[u8],
+    values: &[u32],
+    table: &mut [u32; 4096],
+    pending: &mut [u16; 1024],
+    n: usize,
+    i: usize,
+    top: usize,
+) -> Read
+    requires { ⌜ (Fit (now kinds) (now values) n i) × (top ≤ i) ⌝ }
+    ensures { λ r. ⌜ (Reads «list-form» (now (kinds .entry)) (now (values .entry)) i n (now (table .entry)) r (now (table .exit))) × (Kept (now (pending .entry)) (now (pending .exit)) top) ⌝ }
 {
-    match process(kinds, values, table, n, i) {
-        Read::Bad(x) => Read::Bad(x),
-        Read::Done(j, m, p, d) => {
-            let k = kind_at(kinds, j);
-            if k == 10 {
-                let l = list(kinds, values, table, m, j + 1);
-                let r = add_row(table, l, 12, (m - 1) as u32);
-                return deepen(r, p, d, 0, 0);
+    let mut at = i;
+    let mut row = n;
+    let mut count: usize = 0;
+    let mut depth: usize = 0;
+    let mut deepest: usize = 0;
+    loop {
+        match process(kinds, values, table, pending, row, at, top + count) {
+            Read::Bad(x) => return Read::Bad(x),
+            Read::Done(j, m, p, d) => {
+                depth = larger(depth, p);
+                deepest = larger(deepest, d);
+                let k = kind_at(kinds, j);
+                if k == 9 {
+                    join(table, pending, top, count, m);
+                    return Read::Done(j + 1, m + count, depth, deepest);
+                }
+                if k != 10 {
+                    return Read::Bad(j);
+                }
+                push(pending, top + count, (m - 1) as u16);
+                count += 1;
+                at = j + 1;
+                row = m;
             }
-            if k == 9 {
-                return Read::Done(j + 1, m, p, d);
-            }
-            Read::Bad(j)
         }
     }
 }
 
 // `if e then p else p` at token i.
-fn conditional(kinds: &[u8], values: &[u32], table: &mut [u32; 4096], n: usize, i: usize) -> Read
-    requires { ⌜ (Fit (now kinds) (now values) n i) × (getD (now kinds) i 0 ≡ 18) ⌝ }
-    ensures { λ r. ⌜ Reads «process-form» (now (kinds .entry)) (now (values .entry)) i n (now (table .entry)) r (now (table .exit)) ⌝ }
+fn conditional(
+    kinds: &[u8],
+    values: &[u32],
+    table: &mut [u32; 4096],
+    pending: &mut [u16; 1024],
+    n: usize,
+    i: usize,
+    top: usize,
+) -> Read
+    requires { ⌜ (Fit (now kinds) (now values) n i) × (getD (now kinds) i 0 ≡ 18) × (top ≤ i) ⌝ }
+    ensures { λ r. ⌜ (Reads «process-form» (now (kinds .entry)) (now (values .entry)) i n (now (table .entry)) r (now (table .exit))) × (Kept (now (pending .entry)) (now (pending .exit)) top) ⌝ }
 {
     let e = expression(kinds, values, table, n, i + 1);
     match close(kinds, e, 19) {
         Read::Bad(x) => Read::Bad(x),
         Read::Done(j, m, _, d) => {
-            let t = process(kinds, values, table, m, j);
+            let t = process(kinds, values, table, pending, m, j, top);
             match close(kinds, t, 20) {
                 Read::Bad(x) => Read::Bad(x),
                 Read::Done(k, l, p, f) => {
-                    let q = process(kinds, values, table, l, k);
+                    let q = process(kinds, values, table, pending, l, k, top);
                     let r = add_row_of_two(table, q, 13, (m - 1) as u32, (l - 1) as u32);
                     deepen(r, p, larger(d, f), 1, 0)
                 }
@@ -144,15 +226,23 @@ fn conditional(kinds: &[u8], values: &[u32], table: &mut [u32; 4096], n: usize, 
 }
 
 // `while e do p` at token i.
-fn repetition(kinds: &[u8], values: &[u32], table: &mut [u32; 4096], n: usize, i: usize) -> Read
-    requires { ⌜ (Fit (now kinds) (now values) n i) × (getD (now kinds) i 0 ≡ 21) ⌝ }
-    ensures { λ r. ⌜ Reads «process-form» (now (kinds .entry)) (now (values .entry)) i n (now (table .entry)) r (now (table .exit)) ⌝ }
+fn repetition(
+    kinds: &[u8],
+    values: &[u32],
+    table: &mut [u32; 4096],
+    pending: &mut [u16; 1024],
+    n: usize,
+    i: usize,
+    top: usize,
+) -> Read
+    requires { ⌜ (Fit (now kinds) (now values) n i) × (getD (now kinds) i 0 ≡ 21) × (top ≤ i) ⌝ }
+    ensures { λ r. ⌜ (Reads «process-form» (now (kinds .entry)) (now (values .entry)) i n (now (table .entry)) r (now (table .exit))) × (Kept (now (pending .entry)) (now (pending .exit)) top) ⌝ }
 {
     let e = expression(kinds, values, table, n, i + 1);
     match close(kinds, e, 22) {
         Read::Bad(x) => Read::Bad(x),
         Read::Done(j, m, _, d) => {
-            let p = process(kinds, values, table, m, j);
+            let p = process(kinds, values, table, pending, m, j, top);
             let r = add_row(table, p, 14, (m - 1) as u32);
             deepen(r, 0, d, 1, 0)
         }

@@ -137,10 +137,11 @@ pub fn program(kinds: &[u8], values: &[u32], table: &mut [u32; 4096]) -> Answer
     requires { ⌜ (length (now kinds) ≤ 1024) × (length (now kinds) ≤ length (now values)) ⌝ }
     ensures { λ r. ⌜ (r ≡ answer (length (now (kinds .entry))) (reads (unread (now (kinds .entry)) (now (values .entry)) 0))) × Written (reads (unread (now (kinds .entry)) (now (values .entry)) 0)) (now (table .entry)) (now (table .exit)) ⌝ }
 {
+    let mut pending = [0u16; 1024];
     match specifications(kinds, 0, 0, 0) {
         Front::Bad(x) => Answer::Refused(x),
         Front::Process(s, i, n) => {
-            match process(kinds, values, table, n, i) {
+            match process(kinds, values, table, &mut pending, n, i, 0) {
                 Read::Bad(x) => Answer::Refused(x),
                 Read::Done(j, m, p, d) => {
                     if j < kinds.len() {

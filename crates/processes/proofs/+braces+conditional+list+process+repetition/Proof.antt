@@ -1,18 +1,19 @@
--- `process` and the readers in its cycle of calls meet their contracts, by the laws of specs/Processes.
+-- `process` and the readers in its cycle of calls meet their contracts, by the laws of specs/Processes and specs/Lists.
 -- The measure is three times the unread tokens, and 1 for braces, conditional and repetition, 2 for process, 3 for list: process calls the first three, and list calls process, at the same token.
+-- The invariant of list: whatever the rest of the list reads as, the whole reads as that after the processes that wait in pending.
 use mathlib.Core.Path.{sym, subst, _∙_}
-use Prim.Native.Nat.{_+_}
-use lib.ListN.{length}
 use native.Mathlib.Omega.{arith}
 use borrow.Author.Needs.{needs}
+use lib.ListN.{length}
 use Rattle.grammar.specs.Unread.{inside}
 use Rattle.expressions.specs.Reads.{Reads}
 use Rattle.expressions.specs.Parts.{within-of, ready-of, shallow-of, shallow-after}
 use Rattle.expressions.specs.declared.Read.{Read}
-use Rattle.expressions.specs.declared.Read.the-variants.{Done}
+use Rattle.expressions.specs.declared.Read.the-variants.{Done, Bad}
 use Rattle.processes.specs.Forms.{process-form}
-use Rattle.processes.specs.Processes.{if-form, then-form, while-form, close-if, close-then, close-while, process-skip, process-stop, process-empty, process-none, process-comment, process-braces, list-bad, list-last, list-stop, list-more, while-bad, process-while, if-bad, then-bad, process-if}
-use Prim.Native.Nat.{ℕ, _<_, _+_, _*_, _-_}
+use Rattle.processes.specs.Lists.{Kept, kept-all, kept-then, Resumes, resumes-start, resumes-bad, resumes-stop, resumes-last, resumes-more}
+use Rattle.processes.specs.Processes.{if-form, then-form, while-form, close-if, close-then, close-while, process-skip, process-stop, process-empty, process-none, process-comments, process-braces, while-bad, process-while, if-bad, then-bad, process-if}
+use Prim.Native.Nat.{ℕ, _<_, _≤_, _+_, _*_, _-_}
 use borrow.Fn.Kinds.{In}
 use borrow.Fn.PlainCycle.{Measures, is, falls, and}
 use Rattle.processes.proofs.braces.Reads as braces
@@ -39,57 +40,60 @@ use Rattle.expressions.proofs.kind_at.Reads as kind-at-reads
 use Rattle.expressions.proofs.larger.Reads as larger-reads
 use Rattle.expressions.proofs.put.Reads as put-reads
 use Rattle.processes.proofs.assignment.Reads as assignment-reads
+use Rattle.processes.proofs.join.Reads as join-reads
+use Rattle.processes.proofs.past_comments.Reads as past-comments-reads
+use Rattle.processes.proofs.push.Reads as push-reads
 use Rattle.processes.proofs.+braces+conditional+list+process+repetition.{statement}
 use Rattle.processes.proofs.+braces+conditional+list+process+repetition.Tie.{close}
 
-abbrev μ-braces : Measures 3 braces-kinds.ps ℕ
-μ-braces κs a = 3 * (length (a .0 .now) - a .1 .1 .1 .1 .0) + 1
+abbrev μ-braces : Measures 4 braces-kinds.ps ℕ
+μ-braces κs a = 3 * (length (a .0 .now) - a .1 .1 .1 .1 .1 .0) + 1
 
-abbrev μ-conditional : Measures 3 conditional-kinds.ps ℕ
-μ-conditional κs a = 3 * (length (a .0 .now) - a .1 .1 .1 .1 .0) + 1
+abbrev μ-conditional : Measures 4 conditional-kinds.ps ℕ
+μ-conditional κs a = 3 * (length (a .0 .now) - a .1 .1 .1 .1 .1 .0) + 1
 
-abbrev μ-list : Measures 3 list-kinds.ps ℕ
-μ-list κs a = 3 * (length (a .0 .now) - a .1 .1 .1 .1 .0) + 3
+abbrev μ-list : Measures 4 list-kinds.ps ℕ
+μ-list κs a = 3 * (length (a .0 .now) - a .1 .1 .1 .1 .1 .0) + 3
 
-abbrev μ-process : Measures 3 process-kinds.ps ℕ
-μ-process κs a = 3 * (length (a .0 .now) - a .1 .1 .1 .1 .0) + 2
+abbrev μ-process : Measures 4 process-kinds.ps ℕ
+μ-process κs a = 3 * (length (a .0 .now) - a .1 .1 .1 .1 .1 .0) + 2
 
-abbrev μ-repetition : Measures 3 repetition-kinds.ps ℕ
-μ-repetition κs a = 3 * (length (a .0 .now) - a .1 .1 .1 .1 .0) + 1
+abbrev μ-repetition : Measures 4 repetition-kinds.ps ℕ
+μ-repetition κs a = 3 * (length (a .0 .now) - a .1 .1 .1 .1 .1 .0) + 1
 
-abbrev braces-at : ℕ → In 3 braces-kinds.ps
-braces-at t = and 3 braces-kinds.ps (is 3 braces-kinds.ps μ-braces t) braces.Pre
+abbrev braces-at : ℕ → In 4 braces-kinds.ps
+braces-at t = and 4 braces-kinds.ps (is 4 braces-kinds.ps μ-braces t) braces.Pre
 
-abbrev braces-below : ℕ → In 3 braces-kinds.ps
-braces-below t = and 3 braces-kinds.ps (falls 3 braces-kinds.ps _<_ μ-braces t) braces.Pre
+abbrev braces-below : ℕ → In 4 braces-kinds.ps
+braces-below t = and 4 braces-kinds.ps (falls 4 braces-kinds.ps _<_ μ-braces t) braces.Pre
 
-abbrev conditional-at : ℕ → In 3 conditional-kinds.ps
+abbrev conditional-at : ℕ → In 4 conditional-kinds.ps
 conditional-at t =
-    and 3 conditional-kinds.ps (is 3 conditional-kinds.ps μ-conditional t) conditional.Pre
+    and 4 conditional-kinds.ps (is 4 conditional-kinds.ps μ-conditional t) conditional.Pre
 
-abbrev conditional-below : ℕ → In 3 conditional-kinds.ps
+abbrev conditional-below : ℕ → In 4 conditional-kinds.ps
 conditional-below t =
-    and 3 conditional-kinds.ps (falls 3 conditional-kinds.ps _<_ μ-conditional t) conditional.Pre
+    and 4 conditional-kinds.ps (falls 4 conditional-kinds.ps _<_ μ-conditional t) conditional.Pre
 
-abbrev list-at : ℕ → In 3 list-kinds.ps
-list-at t = and 3 list-kinds.ps (is 3 list-kinds.ps μ-list t) list.Pre
+abbrev list-at : ℕ → In 4 list-kinds.ps
+list-at t = and 4 list-kinds.ps (is 4 list-kinds.ps μ-list t) list.Pre
 
-abbrev list-below : ℕ → In 3 list-kinds.ps
-list-below t = and 3 list-kinds.ps (falls 3 list-kinds.ps _<_ μ-list t) list.Pre
+abbrev list-below : ℕ → In 4 list-kinds.ps
+list-below t = and 4 list-kinds.ps (falls 4 list-kinds.ps _<_ μ-list t) list.Pre
 
-abbrev process-at : ℕ → In 3 process-kinds.ps
-process-at t = and 3 process-kinds.ps (is 3 process-kinds.ps μ-process t) process.Pre
+abbrev process-at : ℕ → In 4 process-kinds.ps
+process-at t = and 4 process-kinds.ps (is 4 process-kinds.ps μ-process t) process.Pre
 
-abbrev process-below : ℕ → In 3 process-kinds.ps
-process-below t = and 3 process-kinds.ps (falls 3 process-kinds.ps _<_ μ-process t) process.Pre
+abbrev process-below : ℕ → In 4 process-kinds.ps
+process-below t = and 4 process-kinds.ps (falls 4 process-kinds.ps _<_ μ-process t) process.Pre
 
-abbrev repetition-at : ℕ → In 3 repetition-kinds.ps
+abbrev repetition-at : ℕ → In 4 repetition-kinds.ps
 repetition-at t =
-    and 3 repetition-kinds.ps (is 3 repetition-kinds.ps μ-repetition t) repetition.Pre
+    and 4 repetition-kinds.ps (is 4 repetition-kinds.ps μ-repetition t) repetition.Pre
 
-abbrev repetition-below : ℕ → In 3 repetition-kinds.ps
+abbrev repetition-below : ℕ → In 4 repetition-kinds.ps
 repetition-below t =
-    and 3 repetition-kinds.ps (falls 3 repetition-kinds.ps _<_ μ-repetition t) repetition.Pre
+    and 4 repetition-kinds.ps (falls 4 repetition-kinds.ps _<_ μ-repetition t) repetition.Pre
 
 abbrev braces-calls : ℕ → braces-lts.Claims
 braces-calls t = (kind-at-reads.Asked, kind-at-reads.Learnt, put-reads.Asked, put-reads.Learnt, list-below t, list.Post, deepen-reads.Asked, deepen-reads.Learnt)
@@ -98,20 +102,15 @@ abbrev conditional-calls : ℕ → conditional-lts.Claims
 conditional-calls t = (expression-reads.Asked, expression-reads.Learnt, close-reads.Asked, close-reads.Learnt, process-below t, process.Post, add-row-of-two-reads.Asked, add-row-of-two-reads.Learnt, larger-reads.Asked, larger-reads.Learnt, deepen-reads.Asked, deepen-reads.Learnt)
 
 abbrev list-calls : ℕ → list-lts.Claims
-list-calls t = (process-below t, process.Post, kind-at-reads.Asked, kind-at-reads.Learnt, list-below t, list.Post, add-row-reads.Asked, add-row-reads.Learnt, deepen-reads.Asked, deepen-reads.Learnt)
+list-calls t = (process-below t, process.Post, larger-reads.Asked, larger-reads.Learnt, kind-at-reads.Asked, kind-at-reads.Learnt, join-reads.Asked, join-reads.Learnt, push-reads.Asked, push-reads.Learnt)
 
 abbrev process-calls : ℕ → process-lts.Claims
-process-calls t = (kind-at-reads.Asked, kind-at-reads.Learnt, put-reads.Asked, put-reads.Learnt, assignment-reads.Asked, assignment-reads.Learnt, braces-below t, braces.Post, conditional-below t, conditional.Post, repetition-below t, repetition.Post, process-below t, process.Post)
+process-calls t = (past-comments-reads.Asked, past-comments-reads.Learnt, kind-at-reads.Asked, kind-at-reads.Learnt, put-reads.Asked, put-reads.Learnt, assignment-reads.Asked, assignment-reads.Learnt, braces-below t, braces.Post, conditional-below t, conditional.Post, repetition-below t, repetition.Post)
 
 abbrev repetition-calls : ℕ → repetition-lts.Claims
 repetition-calls t = (expression-reads.Asked, expression-reads.Learnt, close-reads.Asked, close-reads.Learnt, process-below t, process.Post, add-row-reads.Asked, add-row-reads.Learnt, deepen-reads.Asked, deepen-reads.Learnt)
 
 -- what was read before each match
-list-has : (t : ℕ) (c : list-lts.After-j (list-calls t) (list-at t) list.Post) → Reads process-form (c .before .before .before .before .before .before .args .kinds .now) (c .before .before .before .before .before .before .args .values .now) (c .before .before .before .before .before .before .args .i) (c .before .before .before .before .before .before .args .n) (c .before .before .before .before .before .before .args .table .now) (Done (c .j .given .0 .0) (c .j .given .0 .1 .0) (c .j .given .0 .1 .1 .0) (c .j .given .0 .1 .1 .1 .0)) (c .before .before .process .last .1 .1 .0)
-list-has t c = subst (λ (r : Read). Reads process-form (c .before .before .before .before .before .before .args .kinds .now) (c .before .before .before .before .before .before .args .values .now) (c .before .before .before .before .before .before .args .i) (c .before .before .before .before .before .before .args .n) (c .before .before .before .before .before .before .args .table .now) r (c .before .before .process .last .1 .1 .0))
-    (c .j .given .1)
-    (c .before .before .process .ensures)
-
 repetition-has : (t : ℕ) (c : repetition-lts.After-j (repetition-calls t) (repetition-at t) repetition.Post) → Reads while-form (c .before .before .before .before .before .before .before .args .kinds .now) (c .before .before .before .before .before .before .before .args .values .now) (c .before .before .before .before .before .before .before .args .i + 1) (c .before .before .before .before .before .before .before .args .n) (c .before .before .before .before .before .before .before .args .table .now) (Done (c .j .given .0 .0) (c .j .given .0 .1 .0) (c .j .given .0 .1 .1 .0) (c .j .given .0 .1 .1 .1 .0)) (c .before .before .before .expression .last .1 .1 .0)
 repetition-has t c = subst (λ (r : Read). Reads while-form (c .before .before .before .before .before .before .before .args .kinds .now) (c .before .before .before .before .before .before .before .args .values .now) (c .before .before .before .before .before .before .before .args .i + 1) (c .before .before .before .before .before .before .before .args .n) (c .before .before .before .before .before .before .before .args .table .now) r (c .before .before .before .expression .last .1 .1 .0))
     (sym (c .before .before .close .ensures) ∙ c .j .given .1)
@@ -122,14 +121,36 @@ conditional-has t c = subst (λ (r : Read). Reads if-form (c .before .before .be
     (sym (c .before .before .close .ensures) ∙ c .j .given .1)
     (close-if (c .before .before .before .before .before .before .before .args .kinds .now) (c .before .before .before .before .before .before .before .args .values .now) (c .before .before .before .before .before .before .before .args .i + 1) (c .before .before .before .before .before .before .before .args .n) (c .before .before .before .before .before .before .before .args .table .now) (c .before .before .before .expression .result) (c .before .before .before .expression .last .1 .1 .0) (c .before .before .before .expression .ensures))
 
-conditional-then : (t : ℕ) (c : conditional-lts.After-k (conditional-calls t) (conditional-at t) conditional.Post) → Reads (then-form (conditional-has t (c .before .before .before .before .before .before) .1 .tree)) (c .before .before .before .before .before .before .before .before .before .before .before .before .before .args .kinds .now) (c .before .before .before .before .before .before .before .before .before .before .before .before .before .args .values .now) (c .before .before .before .before .before .before .j .given .0 .0) (c .before .before .before .before .before .before .j .given .0 .1 .0) (c .before .before .before .before .before .before .before .before .before .expression .last .1 .1 .0) (Done (c .k .given .0 .0) (c .k .given .0 .1 .0) (c .k .given .0 .1 .1 .0) (c .k .given .0 .1 .1 .1 .0)) (c .before .before .before .process .last .1 .1 .0)
-conditional-then t c = subst (λ (r : Read). Reads (then-form (conditional-has t (c .before .before .before .before .before .before) .1 .tree)) (c .before .before .before .before .before .before .before .before .before .before .before .before .before .args .kinds .now) (c .before .before .before .before .before .before .before .before .before .before .before .before .before .args .values .now) (c .before .before .before .before .before .before .j .given .0 .0) (c .before .before .before .before .before .before .j .given .0 .1 .0) (c .before .before .before .before .before .before .before .before .before .expression .last .1 .1 .0) r (c .before .before .before .process .last .1 .1 .0))
+conditional-then : (t : ℕ) (c : conditional-lts.After-k (conditional-calls t) (conditional-at t) conditional.Post) → Reads (then-form (conditional-has t (c .before .before .before .before .before .before .before) .1 .tree)) (c .before .before .before .before .before .before .before .before .before .before .before .before .before .before .args .kinds .now) (c .before .before .before .before .before .before .before .before .before .before .before .before .before .before .args .values .now) (c .before .before .before .before .before .before .before .j .given .0 .0) (c .before .before .before .before .before .before .before .j .given .0 .1 .0) (c .before .before .before .before .before .before .before .before .before .before .expression .last .1 .1 .0) (Done (c .k .given .0 .0) (c .k .given .0 .1 .0) (c .k .given .0 .1 .1 .0) (c .k .given .0 .1 .1 .1 .0)) (c .before .before .before .process .last .1 .1 .0)
+conditional-then t c = subst (λ (r : Read). Reads (then-form (conditional-has t (c .before .before .before .before .before .before .before) .1 .tree)) (c .before .before .before .before .before .before .before .before .before .before .before .before .before .before .args .kinds .now) (c .before .before .before .before .before .before .before .before .before .before .before .before .before .before .args .values .now) (c .before .before .before .before .before .before .before .j .given .0 .0) (c .before .before .before .before .before .before .before .j .given .0 .1 .0) (c .before .before .before .before .before .before .before .before .before .before .expression .last .1 .1 .0) r (c .before .before .before .process .last .1 .1 .0))
     (sym (c .before .before .close2 .ensures) ∙ c .k .given .1)
-    (close-then (c .before .before .before .before .before .before .before .before .before .before .before .before .before .args .kinds .now) (c .before .before .before .before .before .before .before .before .before .before .before .before .before .args .values .now) (c .before .before .before .before .before .before .j .given .0 .0) (c .before .before .before .before .before .before .j .given .0 .1 .0) (c .before .before .before .before .before .before .before .before .before .expression .last .1 .1 .0) (c .before .before .before .process .result) (c .before .before .before .process .last .1 .1 .0) (conditional-has t (c .before .before .before .before .before .before) .1 .tree) (c .before .before .before .process .ensures))
+    (close-then (c .before .before .before .before .before .before .before .before .before .before .before .before .before .before .args .kinds .now) (c .before .before .before .before .before .before .before .before .before .before .before .before .before .before .args .values .now) (c .before .before .before .before .before .before .before .j .given .0 .0) (c .before .before .before .before .before .before .before .j .given .0 .1 .0) (c .before .before .before .before .before .before .before .before .before .before .expression .last .1 .1 .0) (c .before .before .before .process .result) (c .before .before .before .process .last .1 .1 .0) (conditional-has t (c .before .before .before .before .before .before .before) .1 .tree) (c .before .before .before .process .ensures .0))
+
+abbrev list-Inv-loop : list-lts.InvT-loop
+list-Inv-loop kinds values table₀ pending₀ n i top at₀ row₀ count₀ depth₀ deepest₀ table pending at row count depth deepest =
+    (i ≤ at) × (at ≤ length kinds) × (row + count ≤ at) × (top + count ≤ at) × (Kept pending₀ pending top) × (Resumes kinds values i n table₀ at row table pending top count depth deepest)
+
+abbrev list-μ-loop : list-lts.MeasureT-loop
+list-μ-loop kinds values table₀ pending₀ n i top at₀ row₀ count₀ depth₀ deepest₀ table pending at row count depth deepest =
+    length kinds - at
+
+list-has : (t : ℕ) (c : list-lts.After-j (list-calls t) (list-at t) list.Post list-Inv-loop list-μ-loop) → Reads process-form (c .before .before .before .before .before .before .before .before .args .kinds .now) (c .before .before .before .before .before .before .before .before .args .values .now) (c .before .before .before .before .before .loop .at) (c .before .before .before .before .before .loop .row) (c .before .before .before .before .before .loop .table) (Done (c .j .given .0 .0) (c .j .given .0 .1 .0) (c .j .given .0 .1 .1 .0) (c .j .given .0 .1 .1 .1 .0)) (c .before .before .process .last .1 .1 .0)
+list-has t c = subst (λ (r : Read). Reads process-form (c .before .before .before .before .before .before .before .before .args .kinds .now) (c .before .before .before .before .before .before .before .before .args .values .now) (c .before .before .before .before .before .loop .at) (c .before .before .before .before .before .loop .row) (c .before .before .before .before .before .loop .table) r (c .before .before .process .last .1 .1 .0))
+    (c .j .given .1)
+    (c .before .before .process .ensures .0)
 
 pub +braces+conditional+list+process+repetition-spec : {M : Type 1} → statement M
 +braces+conditional+list+process+repetition-spec =
-    close μ-braces μ-conditional μ-list μ-process μ-repetition (λ t. braces-lts.spec (braces-calls t)
+    close μ-braces μ-conditional μ-list μ-process μ-repetition (λ t. braces-lts.spec (
+      kind-at-reads.Asked,
+      kind-at-reads.Learnt,
+      put-reads.Asked,
+      put-reads.Learnt,
+      list-below t,
+      list.Post,
+      deepen-reads.Asked,
+      deepen-reads.Learnt,
+    )
     (braces-at t)
     braces.Post
     (λ c. let s = c .before .before in let f = s .pre .1 .0 in let l = inside (s .args .kinds .now) (s .args .i) 8 (s .pre .1 .1) (omega arith) in omega arith)
@@ -137,12 +158,25 @@ pub +braces+conditional+list+process+repetition-spec : {M : Type 1} → statemen
     (λ c κs. let s = c .before .before .before .before .before in let f = s .pre .1 .0 in let l = inside (s .args .kinds .now) (s .args .i) 8 (s .pre .1 .1) (omega arith) in omega arith)
     (λ c. let s = c .before .before .before .before .before .before in let f = s .pre .1 .0 in let l = inside (s .args .kinds .now) (s .args .i) 8 (s .pre .1 .1) (omega arith) in omega arith)
     (λ c. let s = c .before .before .before .before .before .before in let f = s .pre .1 .0 in let l = inside (s .args .kinds .now) (s .args .i) 8 (s .pre .1 .1) (omega arith) in omega arith)
-    (λ c. let s = c .before .before .before .before .before .before in let f = s .pre .1 .0 in let l = inside (s .args .kinds .now) (s .args .i) 8 (s .pre .1 .1) (omega arith) in let k = c .before .before .before .kind-at .ensures in let e = sym k ∙ c .before .before .if1 .taken in let l2 = inside (s .args .kinds .now) (s .args .i + 1) 9 e (omega arith) in process-empty (s .args .kinds .now) (s .args .values .now) (s .args .i) (s .args .n) (s .args .table .now) (c .put .last .0) (s .pre .1 .1) e (c .put .ensures))
-    (λ c. let s = c .before .before .before .before .before in let f = s .pre .1 .0 in let l = inside (s .args .kinds .now) (s .args .i) 8 (s .pre .1 .1) (omega arith) in omega arith)
-    (λ c κs. let s = c .before .before .before .before .before in let f = s .pre .1 .0 in let l = inside (s .args .kinds .now) (s .args .i) 8 (s .pre .1 .1) (omega arith) in omega arith)
-    (λ c κs. let s = c .before .before .before .before .before .before in let f = s .pre .1 .0 in let l = inside (s .args .kinds .now) (s .args .i) 8 (s .pre .1 .1) (omega arith) in (shallow-of (s .args .kinds .now) (s .args .i + 1) (s .args .n) (c .list .result) (c .list .ensures .0) (f .small), omega arith, omega arith, omega arith, omega arith))
-    (λ c. let s = c .before .before .before .before .before .before .before in let f = s .pre .1 .0 in let l = inside (s .args .kinds .now) (s .args .i) 8 (s .pre .1 .1) (omega arith) in let k = c .before .before .before .before .kind-at .ensures in rw (c .deepen .ensures) (process-braces (s .args .kinds .now) (s .args .values .now) (s .args .i) (s .args .n) (s .args .table .now) (c .before .list .result) _ (s .pre .1 .1) (λ e. c .before .before .before .if1 .left (k ∙ e)) (c .before .list .ensures))))
-    (λ t. conditional-lts.spec (conditional-calls t)
+    (λ c. let s = c .before .before .before .before .before .before in let f = s .pre .1 .0 in let l = inside (s .args .kinds .now) (s .args .i) 8 (s .pre .1 .1) (omega arith) in let k = c .before .before .before .kind-at .ensures in let e = sym k ∙ c .before .before .if1 .taken in (process-empty (s .args .kinds .now) (s .args .values .now) (s .args .i) (s .args .n) (s .args .table .now) (c .put .last .0) (s .pre .1 .1) e (c .put .ensures), kept-all _ _))
+    (λ c. let s = c .before .before .before .before .before .before in let f = s .pre .1 .0 in let l = inside (s .args .kinds .now) (s .args .i) 8 (s .pre .1 .1) (omega arith) in omega arith)
+    (λ c κs. let s = c .before .before .before .before .before .before in let f = s .pre .1 .0 in let l = inside (s .args .kinds .now) (s .args .i) 8 (s .pre .1 .1) (omega arith) in omega (arith, s .pre .1 .2))
+    (λ c κs. let s = c .before .before .before .before .before .before .before in let f = s .pre .1 .0 in let l = inside (s .args .kinds .now) (s .args .i) 8 (s .pre .1 .1) (omega arith) in (shallow-of (s .args .kinds .now) (s .args .i + 1) (s .args .n) (c .list .result) (c .list .ensures .0 .0) (f .small), omega arith, omega arith, omega arith, omega arith))
+    (λ c. let s = c .before .before .before .before .before .before .before .before in let f = s .pre .1 .0 in let l = inside (s .args .kinds .now) (s .args .i) 8 (s .pre .1 .1) (omega arith) in let k = c .before .before .before .before .before .kind-at .ensures in (rw (c .deepen .ensures) (process-braces (s .args .kinds .now) (s .args .values .now) (s .args .i) (s .args .n) (s .args .table .now) (c .before .list .result) _ (s .pre .1 .1) (λ e. c .before .before .before .before .if1 .left (k ∙ e)) (c .before .list .ensures .0)), c .before .list .ensures .1)))
+    (λ t. conditional-lts.spec (
+      expression-reads.Asked,
+      expression-reads.Learnt,
+      close-reads.Asked,
+      close-reads.Learnt,
+      process-below t,
+      process.Post,
+      add-row-of-two-reads.Asked,
+      add-row-of-two-reads.Learnt,
+      larger-reads.Asked,
+      larger-reads.Learnt,
+      deepen-reads.Asked,
+      deepen-reads.Learnt,
+    )
     (conditional-at t)
     conditional.Post
     (λ c. let s = c .before .before .before in let f = s .pre .1 .0 in let l = inside (s .args .kinds .now) (s .args .i) 18 (s .pre .1 .1) (omega arith) in omega arith)
@@ -150,64 +184,108 @@ pub +braces+conditional+list+process+repetition-spec : {M : Type 1} → statemen
     (λ c κs. let s = c .before .before .before .before in let f = s .pre .1 .0 in let l = inside (s .args .kinds .now) (s .args .i) 18 (s .pre .1 .1) (omega arith) in (within-of (s .args .kinds .now) (s .args .i + 1) (s .args .n) (c .expression .result) (c .expression .ensures .0), omega arith))
     (λ c. search needs)
     (λ c. search needs)
-    (λ c κs. let s = c .before .before .before .before .before .before .before .before .before in let f = s .pre .1 .0 in let l = inside (s .args .kinds .now) (s .args .i) 18 (s .pre .1 .1) (omega arith) in let h = conditional-has t (c .before .before) in let w = h .0 in omega arith)
-    (λ c κs. let s = c .before .before .before .before .before .before .before .before .before .before in let f = s .pre .1 .0 in let l = inside (s .args .kinds .now) (s .args .i) 18 (s .pre .1 .1) (omega arith) in let h = conditional-has t (c .before .before .before) in let w = h .0 in (within-of (s .args .kinds .now) (c .before .before .before .j .given .0 .0) (c .before .before .before .j .given .0 .1 .0) (c .process .result) (c .process .ensures .0), omega arith))
+    (λ c κs. let s = c .before .before .before .before .before .before .before .before .before .before in let f = s .pre .1 .0 in let l = inside (s .args .kinds .now) (s .args .i) 18 (s .pre .1 .1) (omega arith) in let h = conditional-has t (c .before .before .before) in let w = h .0 in omega (arith, s .pre .1 .2))
+    (λ c κs. let s = c .before .before .before .before .before .before .before .before .before .before .before in let f = s .pre .1 .0 in let l = inside (s .args .kinds .now) (s .args .i) 18 (s .pre .1 .1) (omega arith) in let h = conditional-has t (c .before .before .before .before) in let w = h .0 in (within-of (s .args .kinds .now) (c .before .before .before .before .j .given .0 .0) (c .before .before .before .before .j .given .0 .1 .0) (c .process .result) (c .process .ensures .0 .0), omega arith))
     (λ c. search needs)
     (λ c. search needs)
-    (λ c κs. let s = c .before .before .before .before .before .before .before .before .before .before .before .before .before .before .before in let f = s .pre .1 .0 in let l = inside (s .args .kinds .now) (s .args .i) 18 (s .pre .1 .1) (omega arith) in let h = conditional-has t (c .before .before .before .before .before .before .before .before) in let w = h .0 in let g = conditional-then t (c .before .before) in let u = g .0 in omega arith)
-    (λ c. let s = c .before .before .before .before .before .before .before .before .before .before .before .before .before .before .before .before .before in let f = s .pre .1 .0 in let l = inside (s .args .kinds .now) (s .args .i) 18 (s .pre .1 .1) (omega arith) in let h = conditional-has t (c .before .before .before .before .before .before .before .before .before .before) in let w = h .0 in omega arith)
-    (λ c. let s = c .before .before .before .before .before .before .before .before .before .before .before .before .before .before .before .before .before in let f = s .pre .1 .0 in let l = inside (s .args .kinds .now) (s .args .i) 18 (s .pre .1 .1) (omega arith) in let h = conditional-has t (c .before .before .before .before .before .before .before .before .before .before) in let w = h .0 in omega arith)
-    (λ c. let s = c .before .before .before .before .before .before .before .before .before .before .before .before .before .before .before .before .before in let f = s .pre .1 .0 in let l = inside (s .args .kinds .now) (s .args .i) 18 (s .pre .1 .1) (omega arith) in let h = conditional-has t (c .before .before .before .before .before .before .before .before .before .before) in let w = h .0 in let g = conditional-then t (c .before .before .before .before) in let u = g .0 in omega arith)
-    (λ c. let s = c .before .before .before .before .before .before .before .before .before .before .before .before .before .before .before .before .before in let f = s .pre .1 .0 in let l = inside (s .args .kinds .now) (s .args .i) 18 (s .pre .1 .1) (omega arith) in let h = conditional-has t (c .before .before .before .before .before .before .before .before .before .before) in let w = h .0 in let g = conditional-then t (c .before .before .before .before) in let u = g .0 in omega arith)
-    (λ c κs. let s = c .before .before .before .before .before .before .before .before .before .before .before .before .before .before .before .before .before in let f = s .pre .1 .0 in let l = inside (s .args .kinds .now) (s .args .i) 18 (s .pre .1 .1) (omega arith) in let h = conditional-has t (c .before .before .before .before .before .before .before .before .before .before) in let w = h .0 in let g = conditional-then t (c .before .before .before .before) in let u = g .0 in ready-of (s .args .kinds .now) (c .before .before .before .before .k .given .0 .0) (c .before .before .before .before .k .given .0 .1 .0) (c .before .process2 .result) (c .before .process2 .ensures .0) (omega arith) (f .small))
+    (λ c κs. let s = c .before .before .before .before .before .before .before .before .before .before .before .before .before .before .before .before .before in let f = s .pre .1 .0 in let l = inside (s .args .kinds .now) (s .args .i) 18 (s .pre .1 .1) (omega arith) in let h = conditional-has t (c .before .before .before .before .before .before .before .before .before .before) in let w = h .0 in let g = conditional-then t (c .before .before .before) in let u = g .0 in omega (arith, s .pre .1 .2))
+    (λ c. let s = c .before .before .before .before .before .before .before .before .before .before .before .before .before .before .before .before .before .before .before in let f = s .pre .1 .0 in let l = inside (s .args .kinds .now) (s .args .i) 18 (s .pre .1 .1) (omega arith) in let h = conditional-has t (c .before .before .before .before .before .before .before .before .before .before .before .before) in let w = h .0 in omega arith)
+    (λ c. let s = c .before .before .before .before .before .before .before .before .before .before .before .before .before .before .before .before .before .before .before in let f = s .pre .1 .0 in let l = inside (s .args .kinds .now) (s .args .i) 18 (s .pre .1 .1) (omega arith) in let h = conditional-has t (c .before .before .before .before .before .before .before .before .before .before .before .before) in let w = h .0 in omega arith)
+    (λ c. let s = c .before .before .before .before .before .before .before .before .before .before .before .before .before .before .before .before .before .before .before in let f = s .pre .1 .0 in let l = inside (s .args .kinds .now) (s .args .i) 18 (s .pre .1 .1) (omega arith) in let h = conditional-has t (c .before .before .before .before .before .before .before .before .before .before .before .before) in let w = h .0 in let g = conditional-then t (c .before .before .before .before .before) in let u = g .0 in omega arith)
+    (λ c. let s = c .before .before .before .before .before .before .before .before .before .before .before .before .before .before .before .before .before .before .before in let f = s .pre .1 .0 in let l = inside (s .args .kinds .now) (s .args .i) 18 (s .pre .1 .1) (omega arith) in let h = conditional-has t (c .before .before .before .before .before .before .before .before .before .before .before .before) in let w = h .0 in let g = conditional-then t (c .before .before .before .before .before) in let u = g .0 in omega arith)
+    (λ c κs. let s = c .before .before .before .before .before .before .before .before .before .before .before .before .before .before .before .before .before .before .before in let f = s .pre .1 .0 in let l = inside (s .args .kinds .now) (s .args .i) 18 (s .pre .1 .1) (omega arith) in let h = conditional-has t (c .before .before .before .before .before .before .before .before .before .before .before .before) in let w = h .0 in let g = conditional-then t (c .before .before .before .before .before) in let u = g .0 in ready-of (s .args .kinds .now) (c .before .before .before .before .before .k .given .0 .0) (c .before .before .before .before .before .k .given .0 .1 .0) (c .before .process2 .result) (c .before .process2 .ensures .0 .0) (omega arith) (f .small))
     (λ c κs. search needs)
-    (λ c κs. let s = c .before .before .before .before .before .before .before .before .before .before .before .before .before .before .before .before .before .before .before in let f = s .pre .1 .0 in let l = inside (s .args .kinds .now) (s .args .i) 18 (s .pre .1 .1) (omega arith) in let h = conditional-has t (c .before .before .before .before .before .before .before .before .before .before .before .before) in let w = h .0 in let g = conditional-then t (c .before .before .before .before .before .before) in let u = g .0 in let q = c .larger .ensures in (shallow-after (s .args .kinds .now) (c .before .before .before .before .before .before .k .given .0 .0) (c .before .before .before .before .before .before .k .given .0 .1 .0) (c .before .before .before .process2 .result) _ (c .before .before .before .process2 .ensures .0) (f .small) (c .before .add-row-of-two .ensures .0), omega arith, omega arith, omega arith, omega arith))
-    (λ c. let s = c .before .before .before .before .before .before .before .before in let f = s .pre .1 .0 in let l = inside (s .args .kinds .now) (s .args .i) 18 (s .pre .1 .1) (omega arith) in if-bad (s .args .kinds .now) (s .args .values .now) (s .args .i) (s .args .n) (s .args .table .now) (s .pre .1 .1) (c .before .x .given .0 .0) (c .before .before .before .before .expression .last .1 .1 .0) (subst (λ (r : Read). Reads if-form (s .args .kinds .now) (s .args .values .now) (s .args .i + 1) (s .args .n) (s .args .table .now) r (c .before .before .before .before .expression .last .1 .1 .0)) (sym (c .before .before .before .close .ensures) ∙ c .before .x .given .1) (close-if (s .args .kinds .now) (s .args .values .now) (s .args .i + 1) (s .args .n) (s .args .table .now) (c .before .before .before .before .expression .result) (c .before .before .before .before .expression .last .1 .1 .0) (c .before .before .before .before .expression .ensures))))
-    (λ c. let s = c .before .before .before .before .before .before .before .before .before .before .before .before .before .before in let f = s .pre .1 .0 in let l = inside (s .args .kinds .now) (s .args .i) 18 (s .pre .1 .1) (omega arith) in let h = conditional-has t (c .before .before .before .before .before .before .before) in let w = h .0 in then-bad (s .args .kinds .now) (s .args .values .now) (s .args .i) (s .args .n) (s .args .table .now) (s .pre .1 .1) _ _ _ _ _ h (c .before .x2 .given .0 .0) (c .before .before .before .before .process .last .1 .1 .0) (subst (λ (r : Read). Reads (then-form (h .1 .tree)) (s .args .kinds .now) (s .args .values .now) (c .before .before .before .before .before .before .before .j .given .0 .0) (c .before .before .before .before .before .before .before .j .given .0 .1 .0) (c .before .before .before .before .before .before .before .before .before .before .expression .last .1 .1 .0) r (c .before .before .before .before .process .last .1 .1 .0)) (sym (c .before .before .before .close2 .ensures) ∙ c .before .x2 .given .1) (close-then (s .args .kinds .now) (s .args .values .now) (c .before .before .before .before .before .before .before .j .given .0 .0) (c .before .before .before .before .before .before .before .j .given .0 .1 .0) (c .before .before .before .before .before .before .before .before .before .before .expression .last .1 .1 .0) (c .before .before .before .before .process .result) (c .before .before .before .before .process .last .1 .1 .0) (h .1 .tree) (c .before .before .before .before .process .ensures))))
-    (λ c. let s = c .before .before .before .before .before .before .before .before .before .before .before .before .before .before .before .before .before .before .before .before in let f = s .pre .1 .0 in let l = inside (s .args .kinds .now) (s .args .i) 18 (s .pre .1 .1) (omega arith) in let h = conditional-has t (c .before .before .before .before .before .before .before .before .before .before .before .before .before) in let w = h .0 in let g = conditional-then t (c .before .before .before .before .before .before .before) in let u = g .0 in rw (c .deepen .ensures, c .before .before .add-row-of-two .ensures .0, c .before .before .add-row-of-two .ensures .1, c .before .larger .ensures) (process-if (s .args .kinds .now) (s .args .values .now) (s .args .i) (s .args .n) (s .args .table .now) (s .pre .1 .1) _ _ _ _ _ h _ _ _ _ _ g (c .before .before .before .before .process2 .result) _ (c .before .before .before .before .process2 .ensures))))
-    (λ t. list-lts.spec (list-calls t)
+    (λ c κs. let s = c .before .before .before .before .before .before .before .before .before .before .before .before .before .before .before .before .before .before .before .before .before in let f = s .pre .1 .0 in let l = inside (s .args .kinds .now) (s .args .i) 18 (s .pre .1 .1) (omega arith) in let h = conditional-has t (c .before .before .before .before .before .before .before .before .before .before .before .before .before .before) in let w = h .0 in let g = conditional-then t (c .before .before .before .before .before .before .before) in let u = g .0 in let q = c .larger .ensures in (shallow-after (s .args .kinds .now) (c .before .before .before .before .before .before .before .k .given .0 .0) (c .before .before .before .before .before .before .before .k .given .0 .1 .0) (c .before .before .before .process2 .result) _ (c .before .before .before .process2 .ensures .0 .0) (f .small) (c .before .add-row-of-two .ensures .0), omega arith, omega arith, omega arith, omega arith))
+    (λ c. let s = c .before .before .before .before .before .before .before .before in let f = s .pre .1 .0 in let l = inside (s .args .kinds .now) (s .args .i) 18 (s .pre .1 .1) (omega arith) in (if-bad (s .args .kinds .now) (s .args .values .now) (s .args .i) (s .args .n) (s .args .table .now) (s .pre .1 .1) (c .before .x .given .0 .0) (c .before .before .before .before .expression .last .1 .1 .0) (subst (λ (r : Read). Reads if-form (s .args .kinds .now) (s .args .values .now) (s .args .i + 1) (s .args .n) (s .args .table .now) r (c .before .before .before .before .expression .last .1 .1 .0)) (sym (c .before .before .before .close .ensures) ∙ c .before .x .given .1) (close-if (s .args .kinds .now) (s .args .values .now) (s .args .i + 1) (s .args .n) (s .args .table .now) (c .before .before .before .before .expression .result) (c .before .before .before .before .expression .last .1 .1 .0) (c .before .before .before .before .expression .ensures))), kept-all _ _))
+    (λ c. let s = c .before .before .before .before .before .before .before .before .before .before .before .before .before .before .before in let f = s .pre .1 .0 in let l = inside (s .args .kinds .now) (s .args .i) 18 (s .pre .1 .1) (omega arith) in let h = conditional-has t (c .before .before .before .before .before .before .before .before) in let w = h .0 in (then-bad (s .args .kinds .now) (s .args .values .now) (s .args .i) (s .args .n) (s .args .table .now) (s .pre .1 .1) _ _ _ _ _ h (c .before .x2 .given .0 .0) (c .before .before .before .before .process .last .1 .1 .0) (subst (λ (r : Read). Reads (then-form (h .1 .tree)) (s .args .kinds .now) (s .args .values .now) (c .before .before .before .before .before .before .before .before .j .given .0 .0) (c .before .before .before .before .before .before .before .before .j .given .0 .1 .0) (c .before .before .before .before .before .before .before .before .before .before .before .expression .last .1 .1 .0) r (c .before .before .before .before .process .last .1 .1 .0)) (sym (c .before .before .before .close2 .ensures) ∙ c .before .x2 .given .1) (close-then (s .args .kinds .now) (s .args .values .now) (c .before .before .before .before .before .before .before .before .j .given .0 .0) (c .before .before .before .before .before .before .before .before .j .given .0 .1 .0) (c .before .before .before .before .before .before .before .before .before .before .before .expression .last .1 .1 .0) (c .before .before .before .before .process .result) (c .before .before .before .before .process .last .1 .1 .0) (h .1 .tree) (c .before .before .before .before .process .ensures .0))), c .before .before .before .before .process .ensures .1))
+    (λ c. let s = c .before .before .before .before .before .before .before .before .before .before .before .before .before .before .before .before .before .before .before .before .before .before in let f = s .pre .1 .0 in let l = inside (s .args .kinds .now) (s .args .i) 18 (s .pre .1 .1) (omega arith) in let h = conditional-has t (c .before .before .before .before .before .before .before .before .before .before .before .before .before .before .before) in let w = h .0 in let g = conditional-then t (c .before .before .before .before .before .before .before .before) in let u = g .0 in (rw (c .deepen .ensures, c .before .before .add-row-of-two .ensures .0, c .before .before .add-row-of-two .ensures .1, c .before .larger .ensures) (process-if (s .args .kinds .now) (s .args .values .now) (s .args .i) (s .args .n) (s .args .table .now) (s .pre .1 .1) _ _ _ _ _ h _ _ _ _ _ g (c .before .before .before .before .process2 .result) _ (c .before .before .before .before .process2 .ensures .0)), kept-then _ _ _ (s .args .top) (s .args .top) (omega arith) (c .before .before .before .before .before .before .before .before .before .before .before .process .ensures .1) (c .before .before .before .before .process2 .ensures .1))))
+    (λ t. list-lts.spec (
+      process-below t,
+      process.Post,
+      larger-reads.Asked,
+      larger-reads.Learnt,
+      kind-at-reads.Asked,
+      kind-at-reads.Learnt,
+      join-reads.Asked,
+      join-reads.Learnt,
+      push-reads.Asked,
+      push-reads.Learnt,
+    )
     (list-at t)
     list.Post
-    (λ c κs. let s = c .before .before .before in let f = s .pre .1 in (omega arith, f))
+    list-Inv-loop
+    list-μ-loop
+    (λ c. let s = c .before .before in let f = s .pre .1 .0 in let o = s .pre .1 .1 in (omega arith, f .short, omega arith, omega arith, kept-all _ _, resumes-start _ _ _ _ _ _ _))
+    (λ c. let s = c .before .before .before .before .before in let f = s .pre .1 .0 in let v = c .before .before .loop in let z = v .inv in omega arith)
+    (λ c κs. let s = c .before .before .before .before .before in let f = s .pre .1 .0 in let v = c .before .before .loop in let z = v .inv in (omega arith, (record { few = omega arith; short = omega arith; small = f .small; enough = f .enough }, omega arith)))
     (λ c. search needs)
+    (λ c. let s = c .before .before .before .before .before .before .before .before .before in let f = s .pre .1 .0 in let v = c .before .before .before .before .before .before .loop in let z = v .inv in (resumes-bad (s .args .kinds .now) (s .args .values .now) (s .args .i) (s .args .n) (s .args .table .now) (v .at) (v .row) (v .table) (v .pending) (s .args .top) (v .count) (v .depth) (v .deepest) (z .5) (c .before .x .given .0 .0) (c .before .before .before .process .last .1 .1 .0) (subst (λ (r : Read). Reads process-form (s .args .kinds .now) (s .args .values .now) (v .at) (v .row) (v .table) r (c .before .before .before .process .last .1 .1 .0)) (c .before .x .given .1) (c .before .before .before .process .ensures .0)), (kept-then _ _ _ (s .args .top) (s .args .top + v .count) (omega arith) (z .4) (c .before .before .before .process .ensures .1))))
     (λ c. search needs)
     (λ c κs. search needs)
-    (λ c. let s = c .before .before .before .before .before .before .before .before .before .before in let f = s .pre .1 in let h = list-has t (c .before .before .before .before) in let w = h .0 in omega arith)
-    (λ c κs. let s = c .before .before .before .before .before .before .before .before .before .before in let f = s .pre .1 in let h = list-has t (c .before .before .before .before) in let w = h .0 in let k = c .before .before .kind-at .ensures in let l = inside (s .args .kinds .now) (c .before .before .before .before .j .given .0 .0) 10 (sym k ∙ c .before .if1 .taken) (omega arith) in omega arith)
-    (λ c. let s = c .before .before .before .before .before .before .before .before .before .before .before .before in let f = s .pre .1 in let h = list-has t (c .before .before .before .before .before .before) in let w = h .0 in omega arith)
-    (λ c. let s = c .before .before .before .before .before .before .before .before .before .before .before .before in let f = s .pre .1 in let h = list-has t (c .before .before .before .before .before .before) in let w = h .0 in omega arith)
-    (λ c κs. let s = c .before .before .before .before .before .before .before .before .before .before .before .before in let f = s .pre .1 in let h = list-has t (c .before .before .before .before .before .before) in let w = h .0 in ready-of (s .args .kinds .now) ((c .before .before .before .before .before .before .j .given .0 .0) + 1) (c .before .before .before .before .before .before .j .given .0 .1 .0) (c .before .list .result) (c .before .list .ensures .0) (omega arith) (f .small))
-    (λ c κs. let s = c .before .before .before .before .before .before .before .before .before .before .before .before .before in let f = s .pre .1 in let h = list-has t (c .before .before .before .before .before .before .before) in let w = h .0 in (shallow-after (s .args .kinds .now) ((c .before .before .before .before .before .before .before .j .given .0 .0) + 1) (c .before .before .before .before .before .before .before .j .given .0 .1 .0) (c .before .before .list .result) _ (c .before .before .list .ensures .0) (f .small) (c .add-row .ensures .0), omega arith, omega arith, omega arith, omega arith))
-    (λ c. let s = c .before .before .before .before .before .before .before .before .before .before .before .before .before .before in let f = s .pre .1 in let h = list-has t (c .before .before .before .before .before .before .before .before) in let w = h .0 in let k = c .before .before .before .before .before .before .kind-at .ensures in rw (c .deepen .ensures, c .before .add-row .ensures .0, c .before .add-row .ensures .1) (list-more (s .args .kinds .now) (s .args .values .now) (s .args .i) (s .args .n) (s .args .table .now) _ _ _ _ _ h (c .before .before .before .list .result) _ (sym k ∙ c .before .before .before .before .before .if1 .taken) (c .before .before .before .list .ensures)))
-    (λ c. let s = c .before .before .before .before .before .before .before .before .before .before in let f = s .pre .1 in let h = list-has t (c .before .before .before .before) in let w = h .0 in omega arith)
-    (λ c. let s = c .before .before .before .before .before .before .before .before .before .before in let f = s .pre .1 in let h = list-has t (c .before .before .before .before) in let w = h .0 in let k = c .before .before .kind-at .ensures in list-last (s .args .kinds .now) (s .args .values .now) (s .args .i) (s .args .n) (s .args .table .now) _ _ _ _ _ h (sym k ∙ c .if2 .taken))
-    (λ c. let s = c .before .before .before .before .before .before .before in let f = s .pre .1 in list-bad (s .args .kinds .now) (s .args .values .now) (s .args .i) (s .args .n) (s .args .table .now) (c .before .x .given .0 .0) (c .before .before .before .process .last .1 .1 .0) (subst (λ (r : Read). Reads process-form (s .args .kinds .now) (s .args .values .now) (s .args .i) (s .args .n) (s .args .table .now) r (c .before .before .before .process .last .1 .1 .0)) (c .before .x .given .1) (c .before .before .before .process .ensures)))
-    (λ c. let s = c .before .before .before .before .before .before .before .before .before .before in let f = s .pre .1 in let h = list-has t (c .before .before .before .before) in let w = h .0 in let k = c .before .before .kind-at .ensures in list-stop (s .args .kinds .now) (s .args .values .now) (s .args .i) (s .args .n) (s .args .table .now) _ _ _ _ _ h (λ e. c .before .if1 .left (k ∙ e)) (λ e. c .if2 .left (k ∙ e))))
-    (λ t. process-lts.spec (process-calls t)
+    (λ c κs. search needs)
+    (λ c κs. search needs)
+    (λ c κs. let s = c .before .before .before .before .before .before .before .before .before .before .before .before .before .before .before in let f = s .pre .1 .0 in let v = c .before .before .before .before .before .before .before .before .before .before .before .before .loop in let z = v .inv in let h = list-has t (c .before .before .before .before .before .before .before) in let w = h .0 in omega arith)
+    (λ c. let s = c .before .before .before .before .before .before .before .before .before .before .before .before .before .before .before .before in let f = s .pre .1 .0 in let v = c .before .before .before .before .before .before .before .before .before .before .before .before .before .loop in let z = v .inv in let h = list-has t (c .before .before .before .before .before .before .before .before) in let w = h .0 in omega arith)
+    (λ c. let s = c .before .before .before .before .before .before .before .before .before .before .before .before .before .before .before .before in let f = s .pre .1 .0 in let v = c .before .before .before .before .before .before .before .before .before .before .before .before .before .loop in let z = v .inv in let h = list-has t (c .before .before .before .before .before .before .before .before) in let w = h .0 in omega arith)
+    (λ c. let s = c .before .before .before .before .before .before .before .before .before .before .before .before .before .before .before .before in let f = s .pre .1 .0 in let v = c .before .before .before .before .before .before .before .before .before .before .before .before .before .loop in let z = v .inv in let h = list-has t (c .before .before .before .before .before .before .before .before) in let w = h .0 in let k = c .before .before .before .before .kind-at .ensures in (rw (c .join .ensures, c .before .before .before .before .before .before .larger .ensures, c .before .before .before .before .before .larger2 .ensures) (resumes-last (s .args .kinds .now) (s .args .values .now) (s .args .i) (s .args .n) (s .args .table .now) (v .at) (v .row) (v .table) (v .pending) (s .args .top) (v .count) (v .depth) (v .deepest) (z .5) _ _ _ _ (c .before .before .before .before .before .before .before .before .before .before .process .last .1 .1 .0) h _ (c .before .before .before .before .before .before .before .before .before .before .process .ensures .1) (sym k ∙ c .before .before .before .if1 .taken)), (kept-then _ _ _ (s .args .top) (s .args .top + v .count) (omega arith) (z .4) (c .before .before .before .before .before .before .before .before .before .before .process .ensures .1))))
+    (λ c. let s = c .before .before .before .before .before .before .before .before .before .before .before .before .before .before in let f = s .pre .1 .0 in let v = c .before .before .before .before .before .before .before .before .before .before .before .loop in let z = v .inv in let h = list-has t (c .before .before .before .before .before .before) in let w = h .0 in let k = c .before .before .kind-at .ensures in (resumes-stop (s .args .kinds .now) (s .args .values .now) (s .args .i) (s .args .n) (s .args .table .now) (v .at) (v .row) (v .table) (v .pending) (s .args .top) (v .count) (v .depth) (v .deepest) (z .5) _ _ _ _ (c .before .before .before .before .before .before .before .before .process .last .1 .1 .0) h (λ e. c .if2 .taken (k ∙ e)) (λ e. c .before .if1 .left (k ∙ e)), (kept-then _ _ _ (s .args .top) (s .args .top + v .count) (omega arith) (z .4) (c .before .before .before .before .before .before .before .before .process .ensures .1))))
+    (λ c. let s = c .before .before .before .before .before .before .before .before .before .before .before .before .before .before .before in let f = s .pre .1 .0 in let v = c .before .before .before .before .before .before .before .before .before .before .before .before .loop in let z = v .inv in let h = list-has t (c .before .before .before .before .before .before .before) in let w = h .0 in let k = c .before .before .before .kind-at .ensures in let e = sym k ∙ c .before .if2 .left in let l = inside (s .args .kinds .now) (c .before .before .before .before .before .before .before .j .given .0 .0) 10 e (omega arith) in omega arith)
+    (λ c. let s = c .before .before .before .before .before .before .before .before .before .before .before .before .before .before .before in let f = s .pre .1 .0 in let v = c .before .before .before .before .before .before .before .before .before .before .before .before .loop in let z = v .inv in let h = list-has t (c .before .before .before .before .before .before .before) in let w = h .0 in omega arith)
+    (λ c. let s = c .before .before .before .before .before .before .before .before .before .before .before .before .before .before .before in let f = s .pre .1 .0 in let v = c .before .before .before .before .before .before .before .before .before .before .before .before .loop in let z = v .inv in let h = list-has t (c .before .before .before .before .before .before .before) in let w = h .0 in let k = c .before .before .before .kind-at .ensures in let e = sym k ∙ c .before .if2 .left in let l = inside (s .args .kinds .now) (c .before .before .before .before .before .before .before .j .given .0 .0) 10 e (omega arith) in omega arith)
+    (λ c κs. let s = c .before .before .before .before .before .before .before .before .before .before .before .before .before .before .before in let f = s .pre .1 .0 in let v = c .before .before .before .before .before .before .before .before .before .before .before .before .loop in let z = v .inv in let h = list-has t (c .before .before .before .before .before .before .before) in let w = h .0 in let k = c .before .before .before .kind-at .ensures in let e = sym k ∙ c .before .if2 .left in let l = inside (s .args .kinds .now) (c .before .before .before .before .before .before .before .j .given .0 .0) 10 e (omega arith) in omega arith)
+    (λ c. let s = c .before .before .before .before .before .before .before .before .before .before .before .before .before .before .before .before in let f = s .pre .1 .0 in let v = c .before .before .before .before .before .before .before .before .before .before .before .before .before .loop in let z = v .inv in let h = list-has t (c .before .before .before .before .before .before .before .before) in let w = h .0 in let k = c .before .before .before .before .kind-at .ensures in let e = sym k ∙ c .before .before .if2 .left in let l = inside (s .args .kinds .now) (c .before .before .before .before .before .before .before .before .j .given .0 .0) 10 e (omega arith) in omega arith)
+    (λ c. let s = c .before .before .before .before .before .before .before .before .before .before .before .before .before .before .before .before in let f = s .pre .1 .0 in let v = c .before .before .before .before .before .before .before .before .before .before .before .before .before .loop in let z = v .inv in let h = list-has t (c .before .before .before .before .before .before .before .before) in let w = h .0 in let k = c .before .before .before .before .kind-at .ensures in let e = sym k ∙ c .before .before .if2 .left in let l = inside (s .args .kinds .now) (c .before .before .before .before .before .before .before .before .j .given .0 .0) 10 e (omega arith) in omega arith)
+    (λ c. let s = c .before .before .before .before .before .before .before .before .before .before .before .before .before .before .before .before in let f = s .pre .1 .0 in let v = c .before .before .before .before .before .before .before .before .before .before .before .before .before .loop in let z = v .inv in let h = list-has t (c .before .before .before .before .before .before .before .before) in let w = h .0 in let k = c .before .before .before .before .kind-at .ensures in let e = sym k ∙ c .before .before .if2 .left in let l = inside (s .args .kinds .now) (c .before .before .before .before .before .before .before .before .j .given .0 .0) 10 e (omega arith) in omega arith)
+    (λ c. let s = c .before .before .before .before .before .before .before .before .before .before .before .before .before .before .before .before in let f = s .pre .1 .0 in let v = c .before .before .before .before .before .before .before .before .before .before .before .before .before .loop in let z = v .inv in let h = list-has t (c .before .before .before .before .before .before .before .before) in let w = h .0 in let k = c .before .before .before .before .kind-at .ensures in let e = sym k ∙ c .before .before .if2 .left in let l = inside (s .args .kinds .now) (c .before .before .before .before .before .before .before .before .j .given .0 .0) 10 e (omega arith) in (omega arith, omega arith, omega arith, omega arith, kept-then _ _ _ (s .args .top) (s .args .top + v .count) (omega arith) (kept-then _ _ _ (s .args .top) (s .args .top + v .count) (omega arith) (z .4) (c .before .before .before .before .before .before .before .before .before .before .process .ensures .1)) (c .push .ensures .1), rw (c .before .before .before .before .before .before .larger .ensures, c .before .before .before .before .before .larger2 .ensures) (resumes-more (s .args .kinds .now) (s .args .values .now) (s .args .i) (s .args .n) (s .args .table .now) (v .at) (v .row) (v .table) (v .pending) (s .args .top) (v .count) (v .depth) (v .deepest) (z .5) _ _ _ _ (c .before .before .before .before .before .before .before .before .before .before .process .last .1 .1 .0) h _ (kept-then _ _ _ (s .args .top + v .count) (s .args .top + v .count) (omega arith) (c .before .before .before .before .before .before .before .before .before .before .process .ensures .1) (c .push .ensures .1)) (c .push .ensures .0) e))))
+    (λ t. process-lts.spec (
+      past-comments-reads.Asked,
+      past-comments-reads.Learnt,
+      kind-at-reads.Asked,
+      kind-at-reads.Learnt,
+      put-reads.Asked,
+      put-reads.Learnt,
+      assignment-reads.Asked,
+      assignment-reads.Learnt,
+      braces-below t,
+      braces.Post,
+      conditional-below t,
+      conditional.Post,
+      repetition-below t,
+      repetition.Post,
+    )
     (process-at t)
     process.Post
+    (λ c κs. c .before .before .pre .1 .0 .short)
     (λ c κs. search needs)
-    (λ c κs. let s = c .before .before .before .before .before in let f = s .pre .1 in let k = c .before .before .kind-at .ensures in let e = sym k ∙ c .before .if1 .taken in let l = inside (s .args .kinds .now) (s .args .i) 16 e (omega arith) in omega arith)
-    (λ c. let s = c .before .before .before .before .before .before in let f = s .pre .1 in let k = c .before .before .before .kind-at .ensures in let e = sym k ∙ c .before .before .if1 .taken in let l = inside (s .args .kinds .now) (s .args .i) 16 e (omega arith) in omega arith)
-    (λ c. let s = c .before .before .before .before .before .before in let f = s .pre .1 in let k = c .before .before .before .kind-at .ensures in let e = sym k ∙ c .before .before .if1 .taken in let l = inside (s .args .kinds .now) (s .args .i) 16 e (omega arith) in omega arith)
-    (λ c. let s = c .before .before .before .before .before .before in let f = s .pre .1 in let k = c .before .before .before .kind-at .ensures in let e = sym k ∙ c .before .before .if1 .taken in let l = inside (s .args .kinds .now) (s .args .i) 16 e (omega arith) in process-skip (s .args .kinds .now) (s .args .values .now) (s .args .i) (s .args .n) (s .args .table .now) (c .put .last .0) e (c .put .ensures))
-    (λ c κs. let s = c .before .before .before .before .before .before in let f = s .pre .1 in let k = c .before .before .before .kind-at .ensures in let e = sym k ∙ c .before .if2 .taken in let l = inside (s .args .kinds .now) (s .args .i) 17 e (omega arith) in omega arith)
-    (λ c. let s = c .before .before .before .before .before .before .before in let f = s .pre .1 in let k = c .before .before .before .before .kind-at .ensures in let e = sym k ∙ c .before .before .if2 .taken in let l = inside (s .args .kinds .now) (s .args .i) 17 e (omega arith) in omega arith)
-    (λ c. let s = c .before .before .before .before .before .before .before in let f = s .pre .1 in let k = c .before .before .before .before .kind-at .ensures in let e = sym k ∙ c .before .before .if2 .taken in let l = inside (s .args .kinds .now) (s .args .i) 17 e (omega arith) in omega arith)
-    (λ c. let s = c .before .before .before .before .before .before .before in let f = s .pre .1 in let k = c .before .before .before .before .kind-at .ensures in let e = sym k ∙ c .before .before .if2 .taken in let l = inside (s .args .kinds .now) (s .args .i) 17 e (omega arith) in process-stop (s .args .kinds .now) (s .args .values .now) (s .args .i) (s .args .n) (s .args .table .now) (c .put2 .last .0) e (c .put2 .ensures))
-    (λ c κs. let s = c .before .before .before .before .before .before .before in let f = s .pre .1 in let k = c .before .before .before .before .kind-at .ensures in let e = sym k ∙ c .before .if3 .taken in let l = inside (s .args .kinds .now) (s .args .i) 2 e (omega arith) in (f, e))
-    (λ c. c .assignment .ensures)
-    (λ c κs. let s = c .before .before .before .before .before .before .before .before in let f = s .pre .1 in let k = c .before .before .before .before .before .kind-at .ensures in let e = sym k ∙ c .before .if4 .taken in let l = inside (s .args .kinds .now) (s .args .i) 8 e (omega arith) in (omega arith, (f, e)))
-    (λ c. c .braces .ensures)
-    (λ c κs. let s = c .before .before .before .before .before .before .before .before .before in let f = s .pre .1 in let k = c .before .before .before .before .before .before .kind-at .ensures in let e = sym k ∙ c .before .if5 .taken in let l = inside (s .args .kinds .now) (s .args .i) 18 e (omega arith) in (omega arith, (f, e)))
-    (λ c. c .conditional .ensures)
-    (λ c κs. let s = c .before .before .before .before .before .before .before .before .before .before in let f = s .pre .1 in let k = c .before .before .before .before .before .before .before .kind-at .ensures in let e = sym k ∙ c .before .if6 .taken in let l = inside (s .args .kinds .now) (s .args .i) 21 e (omega arith) in (omega arith, (f, e)))
-    (λ c. c .repetition .ensures)
-    (λ c. let s = c .before .before .before .before .before .before .before .before .before .before .before in let f = s .pre .1 in omega arith)
-    (λ c κs. let s = c .before .before .before .before .before .before .before .before .before .before .before in let f = s .pre .1 in let k = c .before .before .before .before .before .before .before .before .kind-at .ensures in let e = sym k ∙ c .before .if7 .taken in let l = inside (s .args .kinds .now) (s .args .i) 3 e (omega arith) in omega arith)
-    (λ c. let s = c .before .before .before .before .before .before .before .before .before .before .before .before in let f = s .pre .1 in let k = c .before .before .before .before .before .before .before .before .before .kind-at .ensures in let e = sym k ∙ c .before .before .if7 .taken in let l = inside (s .args .kinds .now) (s .args .i) 3 e (omega arith) in process-comment (s .args .kinds .now) (s .args .values .now) (s .args .i) (s .args .n) (s .args .table .now) (c .process .result) _ e (c .process .ensures))
-    (λ c. let s = c .before .before .before .before .before .before .before .before .before .before in let f = s .pre .1 in let k = c .before .before .before .before .before .before .before .kind-at .ensures in process-none (s .args .kinds .now) (s .args .values .now) (s .args .i) (s .args .n) (s .args .table .now) (f .short) (s .args .table .now) (λ e. c .before .before .before .before .before .before .if1 .left (k ∙ e)) (λ e. c .before .before .before .before .before .if2 .left (k ∙ e)) (λ e. c .before .before .before .before .if3 .left (k ∙ e)) (λ e. c .before .before .before .if4 .left (k ∙ e)) (λ e. c .before .before .if5 .left (k ∙ e)) (λ e. c .before .if6 .left (k ∙ e)) (λ e. c .if7 .left (k ∙ e))))
-    λ t. repetition-lts.spec (repetition-calls t)
+    (λ c κs. let s = c .before .before .before .before .before .before in let f = s .pre .1 .0 in let j = c .before .before .before .past-comments .result in let g = c .before .before .before .past-comments .ensures .0 in let k = c .before .before .kind-at .ensures in let e = sym k ∙ c .before .if1 .taken in let l = inside (s .args .kinds .now) j 16 e (omega arith) in omega arith)
+    (λ c. let s = c .before .before .before .before .before .before .before in let f = s .pre .1 .0 in let j = c .before .before .before .before .past-comments .result in let g = c .before .before .before .before .past-comments .ensures .0 in let k = c .before .before .before .kind-at .ensures in let e = sym k ∙ c .before .before .if1 .taken in let l = inside (s .args .kinds .now) j 16 e (omega arith) in omega arith)
+    (λ c. let s = c .before .before .before .before .before .before .before in let f = s .pre .1 .0 in let j = c .before .before .before .before .past-comments .result in let g = c .before .before .before .before .past-comments .ensures .0 in let k = c .before .before .before .kind-at .ensures in let e = sym k ∙ c .before .before .if1 .taken in let l = inside (s .args .kinds .now) j 16 e (omega arith) in omega arith)
+    (λ c. let s = c .before .before .before .before .before .before .before in let f = s .pre .1 .0 in let j = c .before .before .before .before .past-comments .result in let g = c .before .before .before .before .past-comments .ensures .0 in let k = c .before .before .before .kind-at .ensures in let e = sym k ∙ c .before .before .if1 .taken in let l = inside (s .args .kinds .now) j 16 e (omega arith) in (process-comments (s .args .kinds .now) (s .args .values .now) (s .args .i) j (s .args .n) (s .args .table .now) (Done (j + 1) (s .args .n + 1) 1 0) (c .put .last .0) g (process-skip (s .args .kinds .now) (s .args .values .now) j (s .args .n) (s .args .table .now) (c .put .last .0) e (c .put .ensures)), kept-all _ _))
+    (λ c κs. let s = c .before .before .before .before .before .before .before in let f = s .pre .1 .0 in let j = c .before .before .before .before .past-comments .result in let g = c .before .before .before .before .past-comments .ensures .0 in let k = c .before .before .before .kind-at .ensures in let e = sym k ∙ c .before .if2 .taken in let l = inside (s .args .kinds .now) j 17 e (omega arith) in omega arith)
+    (λ c. let s = c .before .before .before .before .before .before .before .before in let f = s .pre .1 .0 in let j = c .before .before .before .before .before .past-comments .result in let g = c .before .before .before .before .before .past-comments .ensures .0 in let k = c .before .before .before .before .kind-at .ensures in let e = sym k ∙ c .before .before .if2 .taken in let l = inside (s .args .kinds .now) j 17 e (omega arith) in omega arith)
+    (λ c. let s = c .before .before .before .before .before .before .before .before in let f = s .pre .1 .0 in let j = c .before .before .before .before .before .past-comments .result in let g = c .before .before .before .before .before .past-comments .ensures .0 in let k = c .before .before .before .before .kind-at .ensures in let e = sym k ∙ c .before .before .if2 .taken in let l = inside (s .args .kinds .now) j 17 e (omega arith) in omega arith)
+    (λ c. let s = c .before .before .before .before .before .before .before .before in let f = s .pre .1 .0 in let j = c .before .before .before .before .before .past-comments .result in let g = c .before .before .before .before .before .past-comments .ensures .0 in let k = c .before .before .before .before .kind-at .ensures in let e = sym k ∙ c .before .before .if2 .taken in let l = inside (s .args .kinds .now) j 17 e (omega arith) in (process-comments (s .args .kinds .now) (s .args .values .now) (s .args .i) j (s .args .n) (s .args .table .now) (Done (j + 1) (s .args .n + 1) 1 0) (c .put2 .last .0) g (process-stop (s .args .kinds .now) (s .args .values .now) j (s .args .n) (s .args .table .now) (c .put2 .last .0) e (c .put2 .ensures)), kept-all _ _))
+    (λ c κs. let s = c .before .before .before .before .before .before .before .before in let f = s .pre .1 .0 in let j = c .before .before .before .before .before .past-comments .result in let g = c .before .before .before .before .before .past-comments .ensures .0 in let k = c .before .before .before .before .kind-at .ensures in let e = sym k ∙ c .before .if3 .taken in let l = inside (s .args .kinds .now) j 2 e (omega arith) in (record { few = omega arith; short = g .short; small = f .small; enough = f .enough }, e))
+    (λ c. let s = c .before .before .before .before .before .before .before .before .before in let f = s .pre .1 .0 in let j = c .before .before .before .before .before .before .past-comments .result in let g = c .before .before .before .before .before .before .past-comments .ensures .0 in let k = c .before .before .before .before .before .kind-at .ensures in (process-comments (s .args .kinds .now) (s .args .values .now) (s .args .i) j (s .args .n) (s .args .table .now) (c .assignment .result) (c .assignment .last .1 .1 .0) g (c .assignment .ensures), kept-all _ _))
+    (λ c κs. let s = c .before .before .before .before .before .before .before .before .before .before in let f = s .pre .1 .0 in let j = c .before .before .before .before .before .before .before .past-comments .result in let g = c .before .before .before .before .before .before .before .past-comments .ensures .0 in let k = c .before .before .before .before .before .before .kind-at .ensures in let e = sym k ∙ c .before .before .if4 .taken in let l = inside (s .args .kinds .now) j 8 e (omega arith) in let o = s .pre .1 .1 in (omega arith, (record { few = omega arith; short = g .short; small = f .small; enough = f .enough }, e, omega arith)))
+    (λ c. let s = c .before .before .before .before .before .before .before .before .before .before .before in let f = s .pre .1 .0 in let j = c .before .before .before .before .before .before .before .before .past-comments .result in let g = c .before .before .before .before .before .before .before .before .past-comments .ensures .0 in let k = c .before .before .before .before .before .before .before .kind-at .ensures in (process-comments (s .args .kinds .now) (s .args .values .now) (s .args .i) j (s .args .n) (s .args .table .now) (c .braces .result) (c .braces .last .1 .1 .0) g (c .braces .ensures .0), c .braces .ensures .1))
+    (λ c κs. let s = c .before .before .before .before .before .before .before .before .before .before .before in let f = s .pre .1 .0 in let j = c .before .before .before .before .before .before .before .before .past-comments .result in let g = c .before .before .before .before .before .before .before .before .past-comments .ensures .0 in let k = c .before .before .before .before .before .before .before .kind-at .ensures in let e = sym k ∙ c .before .before .if5 .taken in let l = inside (s .args .kinds .now) j 18 e (omega arith) in let o = s .pre .1 .1 in (omega arith, (record { few = omega arith; short = g .short; small = f .small; enough = f .enough }, e, omega arith)))
+    (λ c. let s = c .before .before .before .before .before .before .before .before .before .before .before .before in let f = s .pre .1 .0 in let j = c .before .before .before .before .before .before .before .before .before .past-comments .result in let g = c .before .before .before .before .before .before .before .before .before .past-comments .ensures .0 in let k = c .before .before .before .before .before .before .before .before .kind-at .ensures in (process-comments (s .args .kinds .now) (s .args .values .now) (s .args .i) j (s .args .n) (s .args .table .now) (c .conditional .result) (c .conditional .last .1 .1 .0) g (c .conditional .ensures .0), c .conditional .ensures .1))
+    (λ c κs. let s = c .before .before .before .before .before .before .before .before .before .before .before .before in let f = s .pre .1 .0 in let j = c .before .before .before .before .before .before .before .before .before .past-comments .result in let g = c .before .before .before .before .before .before .before .before .before .past-comments .ensures .0 in let k = c .before .before .before .before .before .before .before .before .kind-at .ensures in let e = sym k ∙ c .before .before .if6 .taken in let l = inside (s .args .kinds .now) j 21 e (omega arith) in let o = s .pre .1 .1 in (omega arith, (record { few = omega arith; short = g .short; small = f .small; enough = f .enough }, e, omega arith)))
+    (λ c. let s = c .before .before .before .before .before .before .before .before .before .before .before .before .before in let f = s .pre .1 .0 in let j = c .before .before .before .before .before .before .before .before .before .before .past-comments .result in let g = c .before .before .before .before .before .before .before .before .before .before .past-comments .ensures .0 in let k = c .before .before .before .before .before .before .before .before .before .kind-at .ensures in (process-comments (s .args .kinds .now) (s .args .values .now) (s .args .i) j (s .args .n) (s .args .table .now) (c .repetition .result) (c .repetition .last .1 .1 .0) g (c .repetition .ensures .0), c .repetition .ensures .1))
+    (λ c. let s = c .before .before .before .before .before .before .before .before .before .before in let f = s .pre .1 .0 in let j = c .before .before .before .before .before .before .before .past-comments .result in let g = c .before .before .before .before .before .before .before .past-comments .ensures .0 in let k = c .before .before .before .before .before .before .kind-at .ensures in (process-comments (s .args .kinds .now) (s .args .values .now) (s .args .i) j (s .args .n) (s .args .table .now) (Bad j) (s .args .table .now) g (process-none (s .args .kinds .now) (s .args .values .now) j (s .args .n) (s .args .table .now) (g .short) (s .args .table .now) (λ e. c .before .before .before .before .before .if1 .left (k ∙ e)) (λ e. c .before .before .before .before .if2 .left (k ∙ e)) (λ e. c .before .before .before .if3 .left (k ∙ e)) (λ e. c .before .before .if4 .left (k ∙ e)) (λ e. c .before .if5 .left (k ∙ e)) (λ e. c .if6 .left (k ∙ e)) (c .before .before .before .before .before .before .before .past-comments .ensures .1)), kept-all _ _)))
+    λ t. repetition-lts.spec (
+      expression-reads.Asked,
+      expression-reads.Learnt,
+      close-reads.Asked,
+      close-reads.Learnt,
+      process-below t,
+      process.Post,
+      add-row-reads.Asked,
+      add-row-reads.Learnt,
+      deepen-reads.Asked,
+      deepen-reads.Learnt,
+    )
     (repetition-at t)
     repetition.Post
     (λ c. let s = c .before .before .before in let f = s .pre .1 .0 in let l = inside (s .args .kinds .now) (s .args .i) 21 (s .pre .1 .1) (omega arith) in omega arith)
@@ -215,10 +293,10 @@ pub +braces+conditional+list+process+repetition-spec : {M : Type 1} → statemen
     (λ c κs. let s = c .before .before .before .before in let f = s .pre .1 .0 in let l = inside (s .args .kinds .now) (s .args .i) 21 (s .pre .1 .1) (omega arith) in (within-of (s .args .kinds .now) (s .args .i + 1) (s .args .n) (c .expression .result) (c .expression .ensures .0), omega arith))
     (λ c. search needs)
     (λ c. search needs)
-    (λ c κs. let s = c .before .before .before .before .before .before .before .before .before in let f = s .pre .1 .0 in let l = inside (s .args .kinds .now) (s .args .i) 21 (s .pre .1 .1) (omega arith) in let h = repetition-has t (c .before .before) in let w = h .0 in omega arith)
-    (λ c. let s = c .before .before .before .before .before .before .before .before .before .before .before in let f = s .pre .1 .0 in let l = inside (s .args .kinds .now) (s .args .i) 21 (s .pre .1 .1) (omega arith) in let h = repetition-has t (c .before .before .before .before) in let w = h .0 in omega arith)
-    (λ c. let s = c .before .before .before .before .before .before .before .before .before .before .before in let f = s .pre .1 .0 in let l = inside (s .args .kinds .now) (s .args .i) 21 (s .pre .1 .1) (omega arith) in let h = repetition-has t (c .before .before .before .before) in let w = h .0 in omega arith)
-    (λ c κs. let s = c .before .before .before .before .before .before .before .before .before .before .before in let f = s .pre .1 .0 in let l = inside (s .args .kinds .now) (s .args .i) 21 (s .pre .1 .1) (omega arith) in let h = repetition-has t (c .before .before .before .before) in let w = h .0 in ready-of (s .args .kinds .now) (c .before .before .before .before .j .given .0 .0) (c .before .before .before .before .j .given .0 .1 .0) (c .before .process .result) (c .before .process .ensures .0) (omega arith) (f .small))
-    (λ c κs. let s = c .before .before .before .before .before .before .before .before .before .before .before .before in let f = s .pre .1 .0 in let l = inside (s .args .kinds .now) (s .args .i) 21 (s .pre .1 .1) (omega arith) in let h = repetition-has t (c .before .before .before .before .before) in let w = h .0 in (shallow-after (s .args .kinds .now) (c .before .before .before .before .before .j .given .0 .0) (c .before .before .before .before .before .j .given .0 .1 .0) (c .before .before .process .result) _ (c .before .before .process .ensures .0) (f .small) (c .add-row .ensures .0), omega arith, omega arith, omega arith, omega arith))
-    (λ c. let s = c .before .before .before .before .before .before .before .before in let f = s .pre .1 .0 in let l = inside (s .args .kinds .now) (s .args .i) 21 (s .pre .1 .1) (omega arith) in while-bad (s .args .kinds .now) (s .args .values .now) (s .args .i) (s .args .n) (s .args .table .now) (s .pre .1 .1) (c .before .x .given .0 .0) (c .before .before .before .before .expression .last .1 .1 .0) (subst (λ (r : Read). Reads while-form (s .args .kinds .now) (s .args .values .now) (s .args .i + 1) (s .args .n) (s .args .table .now) r (c .before .before .before .before .expression .last .1 .1 .0)) (sym (c .before .before .before .close .ensures) ∙ c .before .x .given .1) (close-while (s .args .kinds .now) (s .args .values .now) (s .args .i + 1) (s .args .n) (s .args .table .now) (c .before .before .before .before .expression .result) (c .before .before .before .before .expression .last .1 .1 .0) (c .before .before .before .before .expression .ensures))))
-    (λ c. let s = c .before .before .before .before .before .before .before .before .before .before .before .before .before in let f = s .pre .1 .0 in let l = inside (s .args .kinds .now) (s .args .i) 21 (s .pre .1 .1) (omega arith) in let h = repetition-has t (c .before .before .before .before .before .before) in let w = h .0 in rw (c .deepen .ensures, c .before .add-row .ensures .0, c .before .add-row .ensures .1) (process-while (s .args .kinds .now) (s .args .values .now) (s .args .i) (s .args .n) (s .args .table .now) (s .pre .1 .1) _ _ _ _ _ h (c .before .before .before .process .result) _ (c .before .before .before .process .ensures)))
+    (λ c κs. let s = c .before .before .before .before .before .before .before .before .before .before in let f = s .pre .1 .0 in let l = inside (s .args .kinds .now) (s .args .i) 21 (s .pre .1 .1) (omega arith) in let h = repetition-has t (c .before .before .before) in let w = h .0 in omega (arith, s .pre .1 .2))
+    (λ c. let s = c .before .before .before .before .before .before .before .before .before .before .before .before in let f = s .pre .1 .0 in let l = inside (s .args .kinds .now) (s .args .i) 21 (s .pre .1 .1) (omega arith) in let h = repetition-has t (c .before .before .before .before .before) in let w = h .0 in omega arith)
+    (λ c. let s = c .before .before .before .before .before .before .before .before .before .before .before .before in let f = s .pre .1 .0 in let l = inside (s .args .kinds .now) (s .args .i) 21 (s .pre .1 .1) (omega arith) in let h = repetition-has t (c .before .before .before .before .before) in let w = h .0 in omega arith)
+    (λ c κs. let s = c .before .before .before .before .before .before .before .before .before .before .before .before in let f = s .pre .1 .0 in let l = inside (s .args .kinds .now) (s .args .i) 21 (s .pre .1 .1) (omega arith) in let h = repetition-has t (c .before .before .before .before .before) in let w = h .0 in ready-of (s .args .kinds .now) (c .before .before .before .before .before .j .given .0 .0) (c .before .before .before .before .before .j .given .0 .1 .0) (c .before .process .result) (c .before .process .ensures .0 .0) (omega arith) (f .small))
+    (λ c κs. let s = c .before .before .before .before .before .before .before .before .before .before .before .before .before in let f = s .pre .1 .0 in let l = inside (s .args .kinds .now) (s .args .i) 21 (s .pre .1 .1) (omega arith) in let h = repetition-has t (c .before .before .before .before .before .before) in let w = h .0 in (shallow-after (s .args .kinds .now) (c .before .before .before .before .before .before .j .given .0 .0) (c .before .before .before .before .before .before .j .given .0 .1 .0) (c .before .before .process .result) _ (c .before .before .process .ensures .0 .0) (f .small) (c .add-row .ensures .0), omega arith, omega arith, omega arith, omega arith))
+    (λ c. let s = c .before .before .before .before .before .before .before .before in let f = s .pre .1 .0 in let l = inside (s .args .kinds .now) (s .args .i) 21 (s .pre .1 .1) (omega arith) in (while-bad (s .args .kinds .now) (s .args .values .now) (s .args .i) (s .args .n) (s .args .table .now) (s .pre .1 .1) (c .before .x .given .0 .0) (c .before .before .before .before .expression .last .1 .1 .0) (subst (λ (r : Read). Reads while-form (s .args .kinds .now) (s .args .values .now) (s .args .i + 1) (s .args .n) (s .args .table .now) r (c .before .before .before .before .expression .last .1 .1 .0)) (sym (c .before .before .before .close .ensures) ∙ c .before .x .given .1) (close-while (s .args .kinds .now) (s .args .values .now) (s .args .i + 1) (s .args .n) (s .args .table .now) (c .before .before .before .before .expression .result) (c .before .before .before .before .expression .last .1 .1 .0) (c .before .before .before .before .expression .ensures))), kept-all _ _))
+    (λ c. let s = c .before .before .before .before .before .before .before .before .before .before .before .before .before .before in let f = s .pre .1 .0 in let l = inside (s .args .kinds .now) (s .args .i) 21 (s .pre .1 .1) (omega arith) in let h = repetition-has t (c .before .before .before .before .before .before .before) in let w = h .0 in (rw (c .deepen .ensures, c .before .add-row .ensures .0, c .before .add-row .ensures .1) (process-while (s .args .kinds .now) (s .args .values .now) (s .args .i) (s .args .n) (s .args .table .now) (s .pre .1 .1) _ _ _ _ _ h (c .before .before .before .process .result) _ (c .before .before .before .process .ensures .0)), c .before .before .before .process .ensures .1))

@@ -1,0 +1,46 @@
+-- The invariant: the joints that are left, from here, are the joints of the whole.
+use native.Mathlib.Omega.{arith}
+use borrow.Author.Needs.{needs}
+use mathlib.Core.Path.{_≡_, refl, sym, ap, _∙_}
+use mathlib.Core.List.{List}
+use Prim.Native.Nat.{ℕ, _+_, _-_, _*_, _<_, _≤_}
+use lib.ListN.{getD}
+use lib.Seq.{sets}
+use Rattle.grammar.specs.Rows.{row as row-of}
+use Rattle.processes.specs.Lists.{joints, joints-none, joints-more}
+use Rattle.processes.proofs.join.Statement.{statement}
+use Rattle.processes.proofs.join.Tie as tie
+
+abbrev Inv-loop : tie.InvT-loop
+Inv-loop table₀ pending top count m c₀ row₀ table c row = (0 < row) × (c ≤ count) × (row + c ≡ m + count) × (joints table row pending top c ≡ joints table₀ m pending top count)
+
+abbrev μ-loop : tie.MeasureT-loop
+μ-loop table₀ pending top count m c₀ row₀ table c row = c
+
+loop-again : tie.Need-loop-again Inv-loop μ-loop
+loop-again c =
+    let a = c .before .before .before .before .before .before .args in
+    let l = c .before .before .before .before .before .loop in
+    let k = l .c - 1 in
+    let e : c .put .last .0 ≡ sets (l .table) (4 * l .row) (row-of 12 (getD (a .pending .now) (a .top + k) 0) (l .row - 1) 0) = _∙_ {b = sets (l .table) (4 * l .row) (row-of 12 (c .before .wide .result) (l .row - 1) 0)} (c .put .ensures) (ap (λ (x : ℕ). sets (l .table) (4 * l .row) (row-of 12 x (l .row - 1) 0)) (c .before .wide .ensures)) in
+    (omega arith, omega arith, omega arith, ap (λ (t : List ℕ). joints t (l .row + 1) (a .pending .now) (a .top) k) e ∙ sym (joints-more (l .table) (l .row) (a .pending .now) (a .top) (l .c) k (omega arith)) ∙ l .inv .3)
+
+pub join-spec : {M : Type 1} → statement M
+join-spec =
+    tie.close
+    (tie.spec
+    Inv-loop
+    μ-loop
+    (λ c. (omega arith, omega arith, refl, refl))
+    (λ c. omega arith)
+    (λ c. omega arith)
+    (λ c. omega arith)
+    (λ c. omega arith)
+    (λ c κs. search needs)
+    (λ c. omega arith)
+    (λ c. omega arith)
+    (λ c κs. omega arith)
+    (λ c. omega arith)
+    (λ c. omega arith)
+    loop-again
+    (λ c. sym (joints-none _ _ _ _ _ (omega arith)) ∙ c .before .loop .inv .3))
