@@ -111,24 +111,34 @@ fn specification(kinds: &[u8], i: usize) -> Specified
     val_at(kinds, i)
 }
 
-// Comments and specifications from token i on, up to the process; n rows are declared before, and the tokens from `start` on are comments.
-fn specifications(kinds: &[u8], n: usize, start: usize, i: usize) -> Front
-    requires { ⌜ (length (now kinds) ≤ 1024) × (i ≤ length (now kinds)) × (n ≤ i) ⌝ }
-    ensures { λ r. ⌜ ((values : List ℕ) → «Reads-front» (now (kinds .entry)) values i n start r) ⌝ }
+// Comments and specifications, up to the process.
+fn specifications(kinds: &[u8]) -> Front
+    requires { ⌜ length (now kinds) ≤ 1024 ⌝ }
+    ensures { λ r. ⌜ ((values : List ℕ) → «Reads-front» (now (kinds .entry)) values 0 0 0 r) ⌝ }
 {
-    let k = kind_at(kinds, i);
-    if k == 3 {
-        return specifications(kinds, n, start, i + 1);
-    }
-    if k < 13 {
-        return Front::Process(start, i, n);
-    }
-    if 15 < k {
-        return Front::Process(start, i, n);
-    }
-    match specification(kinds, i) {
-        Specified::Bad(x) => Front::Bad(x),
-        Specified::Next(j, d) => specifications(kinds, n + d, j, j),
+    let mut i: usize = 0;
+    let mut start: usize = 0;
+    let mut n: usize = 0;
+    loop {
+        let k = kind_at(kinds, i);
+        if k == 3 {
+            i += 1;
+        } else {
+            if k < 13 {
+                return Front::Process(start, i, n);
+            }
+            if 15 < k {
+                return Front::Process(start, i, n);
+            }
+            match specification(kinds, i) {
+                Specified::Bad(x) => return Front::Bad(x),
+                Specified::Next(j, d) => {
+                    i = j;
+                    start = j;
+                    n += d;
+                }
+            }
+        }
     }
 }
 
@@ -138,7 +148,7 @@ pub fn program(kinds: &[u8], values: &[u32], table: &mut [u32; 4096]) -> Answer
     ensures { λ r. ⌜ (r ≡ answer (length (now (kinds .entry))) (reads (unread (now (kinds .entry)) (now (values .entry)) 0))) × Written (reads (unread (now (kinds .entry)) (now (values .entry)) 0)) (now (table .entry)) (now (table .exit)) ⌝ }
 {
     let mut pending = [0u16; 1024];
-    match specifications(kinds, 0, 0, 0) {
+    match specifications(kinds) {
         Front::Bad(x) => Answer::Refused(x),
         Front::Process(s, i, n) => {
             match process(kinds, values, table, &mut pending, n, i, 0) {

@@ -141,16 +141,7 @@ list-has t c = subst (λ (r : Read). Reads process-form (c .before .before .befo
 
 pub +braces+conditional+list+process+repetition-spec : {M : Type 1} → statement M
 +braces+conditional+list+process+repetition-spec =
-    close μ-braces μ-conditional μ-list μ-process μ-repetition (λ t. braces-lts.spec (
-      kind-at-reads.Asked,
-      kind-at-reads.Learnt,
-      put-reads.Asked,
-      put-reads.Learnt,
-      list-below t,
-      list.Post,
-      deepen-reads.Asked,
-      deepen-reads.Learnt,
-    )
+    close μ-braces μ-conditional μ-list μ-process μ-repetition (λ t. braces-lts.spec (braces-calls t)
     (braces-at t)
     braces.Post
     (λ c. let s = c .before .before in let f = s .pre .1 .0 in let l = inside (s .args .kinds .now) (s .args .i) 8 (s .pre .1 .1) (omega arith) in omega arith)
@@ -163,20 +154,7 @@ pub +braces+conditional+list+process+repetition-spec : {M : Type 1} → statemen
     (λ c κs. let s = c .before .before .before .before .before .before in let f = s .pre .1 .0 in let l = inside (s .args .kinds .now) (s .args .i) 8 (s .pre .1 .1) (omega arith) in omega (arith, s .pre .1 .2))
     (λ c κs. let s = c .before .before .before .before .before .before .before in let f = s .pre .1 .0 in let l = inside (s .args .kinds .now) (s .args .i) 8 (s .pre .1 .1) (omega arith) in (shallow-of (s .args .kinds .now) (s .args .i + 1) (s .args .n) (c .list .result) (c .list .ensures .0 .0) (f .small), omega arith, omega arith, omega arith, omega arith))
     (λ c. let s = c .before .before .before .before .before .before .before .before in let f = s .pre .1 .0 in let l = inside (s .args .kinds .now) (s .args .i) 8 (s .pre .1 .1) (omega arith) in let k = c .before .before .before .before .before .kind-at .ensures in (rw (c .deepen .ensures) (process-braces (s .args .kinds .now) (s .args .values .now) (s .args .i) (s .args .n) (s .args .table .now) (c .before .list .result) _ (s .pre .1 .1) (λ e. c .before .before .before .before .if1 .left (k ∙ e)) (c .before .list .ensures .0)), c .before .list .ensures .1)))
-    (λ t. conditional-lts.spec (
-      expression-reads.Asked,
-      expression-reads.Learnt,
-      close-reads.Asked,
-      close-reads.Learnt,
-      process-below t,
-      process.Post,
-      add-row-of-two-reads.Asked,
-      add-row-of-two-reads.Learnt,
-      larger-reads.Asked,
-      larger-reads.Learnt,
-      deepen-reads.Asked,
-      deepen-reads.Learnt,
-    )
+    (λ t. conditional-lts.spec (conditional-calls t)
     (conditional-at t)
     conditional.Post
     (λ c. let s = c .before .before .before in let f = s .pre .1 .0 in let l = inside (s .args .kinds .now) (s .args .i) 18 (s .pre .1 .1) (omega arith) in omega arith)
@@ -199,18 +177,7 @@ pub +braces+conditional+list+process+repetition-spec : {M : Type 1} → statemen
     (λ c. let s = c .before .before .before .before .before .before .before .before in let f = s .pre .1 .0 in let l = inside (s .args .kinds .now) (s .args .i) 18 (s .pre .1 .1) (omega arith) in (if-bad (s .args .kinds .now) (s .args .values .now) (s .args .i) (s .args .n) (s .args .table .now) (s .pre .1 .1) (c .before .x .given .0 .0) (c .before .before .before .before .expression .last .1 .1 .0) (subst (λ (r : Read). Reads if-form (s .args .kinds .now) (s .args .values .now) (s .args .i + 1) (s .args .n) (s .args .table .now) r (c .before .before .before .before .expression .last .1 .1 .0)) (sym (c .before .before .before .close .ensures) ∙ c .before .x .given .1) (close-if (s .args .kinds .now) (s .args .values .now) (s .args .i + 1) (s .args .n) (s .args .table .now) (c .before .before .before .before .expression .result) (c .before .before .before .before .expression .last .1 .1 .0) (c .before .before .before .before .expression .ensures))), kept-all _ _))
     (λ c. let s = c .before .before .before .before .before .before .before .before .before .before .before .before .before .before .before in let f = s .pre .1 .0 in let l = inside (s .args .kinds .now) (s .args .i) 18 (s .pre .1 .1) (omega arith) in let h = conditional-has t (c .before .before .before .before .before .before .before .before) in let w = h .0 in (then-bad (s .args .kinds .now) (s .args .values .now) (s .args .i) (s .args .n) (s .args .table .now) (s .pre .1 .1) _ _ _ _ _ h (c .before .x2 .given .0 .0) (c .before .before .before .before .process .last .1 .1 .0) (subst (λ (r : Read). Reads (then-form (h .1 .tree)) (s .args .kinds .now) (s .args .values .now) (c .before .before .before .before .before .before .before .before .j .given .0 .0) (c .before .before .before .before .before .before .before .before .j .given .0 .1 .0) (c .before .before .before .before .before .before .before .before .before .before .before .expression .last .1 .1 .0) r (c .before .before .before .before .process .last .1 .1 .0)) (sym (c .before .before .before .close2 .ensures) ∙ c .before .x2 .given .1) (close-then (s .args .kinds .now) (s .args .values .now) (c .before .before .before .before .before .before .before .before .j .given .0 .0) (c .before .before .before .before .before .before .before .before .j .given .0 .1 .0) (c .before .before .before .before .before .before .before .before .before .before .before .expression .last .1 .1 .0) (c .before .before .before .before .process .result) (c .before .before .before .before .process .last .1 .1 .0) (h .1 .tree) (c .before .before .before .before .process .ensures .0))), c .before .before .before .before .process .ensures .1))
     (λ c. let s = c .before .before .before .before .before .before .before .before .before .before .before .before .before .before .before .before .before .before .before .before .before .before in let f = s .pre .1 .0 in let l = inside (s .args .kinds .now) (s .args .i) 18 (s .pre .1 .1) (omega arith) in let h = conditional-has t (c .before .before .before .before .before .before .before .before .before .before .before .before .before .before .before) in let w = h .0 in let g = conditional-then t (c .before .before .before .before .before .before .before .before) in let u = g .0 in (rw (c .deepen .ensures, c .before .before .add-row-of-two .ensures .0, c .before .before .add-row-of-two .ensures .1, c .before .larger .ensures) (process-if (s .args .kinds .now) (s .args .values .now) (s .args .i) (s .args .n) (s .args .table .now) (s .pre .1 .1) _ _ _ _ _ h _ _ _ _ _ g (c .before .before .before .before .process2 .result) _ (c .before .before .before .before .process2 .ensures .0)), kept-then _ _ _ (s .args .top) (s .args .top) (omega arith) (c .before .before .before .before .before .before .before .before .before .before .before .process .ensures .1) (c .before .before .before .before .process2 .ensures .1))))
-    (λ t. list-lts.spec (
-      process-below t,
-      process.Post,
-      larger-reads.Asked,
-      larger-reads.Learnt,
-      kind-at-reads.Asked,
-      kind-at-reads.Learnt,
-      join-reads.Asked,
-      join-reads.Learnt,
-      push-reads.Asked,
-      push-reads.Learnt,
-    )
+    (λ t. list-lts.spec (list-calls t)
     (list-at t)
     list.Post
     list-Inv-loop
@@ -237,22 +204,7 @@ pub +braces+conditional+list+process+repetition-spec : {M : Type 1} → statemen
     (λ c. let s = c .before .before .before .before .before .before .before .before .before .before .before .before .before .before .before .before in let f = s .pre .1 .0 in let v = c .before .before .before .before .before .before .before .before .before .before .before .before .before .loop in let z = v .inv in let h = list-has t (c .before .before .before .before .before .before .before .before) in let w = h .0 in let k = c .before .before .before .before .kind-at .ensures in let e = sym k ∙ c .before .before .if2 .left in let l = inside (s .args .kinds .now) (c .before .before .before .before .before .before .before .before .j .given .0 .0) 10 e (omega arith) in omega arith)
     (λ c. let s = c .before .before .before .before .before .before .before .before .before .before .before .before .before .before .before .before in let f = s .pre .1 .0 in let v = c .before .before .before .before .before .before .before .before .before .before .before .before .before .loop in let z = v .inv in let h = list-has t (c .before .before .before .before .before .before .before .before) in let w = h .0 in let k = c .before .before .before .before .kind-at .ensures in let e = sym k ∙ c .before .before .if2 .left in let l = inside (s .args .kinds .now) (c .before .before .before .before .before .before .before .before .j .given .0 .0) 10 e (omega arith) in omega arith)
     (λ c. let s = c .before .before .before .before .before .before .before .before .before .before .before .before .before .before .before .before in let f = s .pre .1 .0 in let v = c .before .before .before .before .before .before .before .before .before .before .before .before .before .loop in let z = v .inv in let h = list-has t (c .before .before .before .before .before .before .before .before) in let w = h .0 in let k = c .before .before .before .before .kind-at .ensures in let e = sym k ∙ c .before .before .if2 .left in let l = inside (s .args .kinds .now) (c .before .before .before .before .before .before .before .before .j .given .0 .0) 10 e (omega arith) in (omega arith, omega arith, omega arith, omega arith, kept-then _ _ _ (s .args .top) (s .args .top + v .count) (omega arith) (kept-then _ _ _ (s .args .top) (s .args .top + v .count) (omega arith) (z .4) (c .before .before .before .before .before .before .before .before .before .before .process .ensures .1)) (c .push .ensures .1), rw (c .before .before .before .before .before .before .larger .ensures, c .before .before .before .before .before .larger2 .ensures) (resumes-more (s .args .kinds .now) (s .args .values .now) (s .args .i) (s .args .n) (s .args .table .now) (v .at) (v .row) (v .table) (v .pending) (s .args .top) (v .count) (v .depth) (v .deepest) (z .5) _ _ _ _ (c .before .before .before .before .before .before .before .before .before .before .process .last .1 .1 .0) h _ (kept-then _ _ _ (s .args .top + v .count) (s .args .top + v .count) (omega arith) (c .before .before .before .before .before .before .before .before .before .before .process .ensures .1) (c .push .ensures .1)) (c .push .ensures .0) e))))
-    (λ t. process-lts.spec (
-      past-comments-reads.Asked,
-      past-comments-reads.Learnt,
-      kind-at-reads.Asked,
-      kind-at-reads.Learnt,
-      put-reads.Asked,
-      put-reads.Learnt,
-      assignment-reads.Asked,
-      assignment-reads.Learnt,
-      braces-below t,
-      braces.Post,
-      conditional-below t,
-      conditional.Post,
-      repetition-below t,
-      repetition.Post,
-    )
+    (λ t. process-lts.spec (process-calls t)
     (process-at t)
     process.Post
     (λ c κs. c .before .before .pre .1 .0 .short)
@@ -274,18 +226,7 @@ pub +braces+conditional+list+process+repetition-spec : {M : Type 1} → statemen
     (λ c κs. let s = c .before .before .before .before .before .before .before .before .before .before .before .before in let f = s .pre .1 .0 in let j = c .before .before .before .before .before .before .before .before .before .past-comments .result in let g = c .before .before .before .before .before .before .before .before .before .past-comments .ensures .0 in let k = c .before .before .before .before .before .before .before .before .kind-at .ensures in let e = sym k ∙ c .before .before .if6 .taken in let l = inside (s .args .kinds .now) j 21 e (omega arith) in let o = s .pre .1 .1 in (omega arith, (record { few = omega arith; short = g .short; small = f .small; enough = f .enough }, e, omega arith)))
     (λ c. let s = c .before .before .before .before .before .before .before .before .before .before .before .before .before in let f = s .pre .1 .0 in let j = c .before .before .before .before .before .before .before .before .before .before .past-comments .result in let g = c .before .before .before .before .before .before .before .before .before .before .past-comments .ensures .0 in let k = c .before .before .before .before .before .before .before .before .before .kind-at .ensures in (process-comments (s .args .kinds .now) (s .args .values .now) (s .args .i) j (s .args .n) (s .args .table .now) (c .repetition .result) (c .repetition .last .1 .1 .0) g (c .repetition .ensures .0), c .repetition .ensures .1))
     (λ c. let s = c .before .before .before .before .before .before .before .before .before .before in let f = s .pre .1 .0 in let j = c .before .before .before .before .before .before .before .past-comments .result in let g = c .before .before .before .before .before .before .before .past-comments .ensures .0 in let k = c .before .before .before .before .before .before .kind-at .ensures in (process-comments (s .args .kinds .now) (s .args .values .now) (s .args .i) j (s .args .n) (s .args .table .now) (Bad j) (s .args .table .now) g (process-none (s .args .kinds .now) (s .args .values .now) j (s .args .n) (s .args .table .now) (g .short) (s .args .table .now) (λ e. c .before .before .before .before .before .if1 .left (k ∙ e)) (λ e. c .before .before .before .before .if2 .left (k ∙ e)) (λ e. c .before .before .before .if3 .left (k ∙ e)) (λ e. c .before .before .if4 .left (k ∙ e)) (λ e. c .before .if5 .left (k ∙ e)) (λ e. c .if6 .left (k ∙ e)) (c .before .before .before .before .before .before .before .past-comments .ensures .1)), kept-all _ _)))
-    λ t. repetition-lts.spec (
-      expression-reads.Asked,
-      expression-reads.Learnt,
-      close-reads.Asked,
-      close-reads.Learnt,
-      process-below t,
-      process.Post,
-      add-row-reads.Asked,
-      add-row-reads.Learnt,
-      deepen-reads.Asked,
-      deepen-reads.Learnt,
-    )
+    λ t. repetition-lts.spec (repetition-calls t)
     (repetition-at t)
     repetition.Post
     (λ c. let s = c .before .before .before in let f = s .pre .1 .0 in let l = inside (s .args .kinds .now) (s .args .i) 21 (s .pre .1 .1) (omega arith) in omega arith)
