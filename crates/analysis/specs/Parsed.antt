@@ -28,6 +28,8 @@ use Rattle.front.specs.Front.{symbols, text-of, place-of, judged, named, parsed
 use Rattle.front.specs.Refused.{least-first-in-text}
 use Rattle.reader.specs.Answer.{answer, Written, process-start}
 use Rattle.reader.specs.declared.Answer.the-variants as read
+use Rattle.recognizer.specs.declared.Recognized.the-variants as recognizer
+use Rattle.recognizer.specs.Recognized.{Says}
 use Rattle.name_table.specs.View.{text-at, place-at}
 use Rattle.analysis.specs.Arrays.{symbols-all, unread-all, length-entries, place-all, text-all}
 use Rattle.grammar.specs.FewRows.{few-rows}
@@ -56,6 +58,16 @@ module _ (source ks ps vs : List ℕ) (lp : length ps ≡ length ks) (lv : lengt
       by (automaton.refused u) e =
           let z : length ks - length u ≡ i = cc in
           ap (front.refused 6) (unread-all ks ps vs (length ks) refl lp lv (length u) (length source) ∙ ap (λ (k : ℕ). pick (ltb k (length ps)) (getD ps k 0) (length source)) z ∙ sym h)
+
+  -- the recognizer's answers
+  pub recognized-bad : (i place : ℕ) → Says (length ks) R (recognizer.Bad i) → place ≡ pick (ltb i (length ps)) (getD ps i 0) (length source) → come ≡ front.refused 6 place
+  recognized-bad i place h e =
+      let z : length ks - length (h .0) ≡ i = omega (arith, h .2) in
+      refused-at i place (ap (answer (length ks)) (h .1) ∙ ap read.Refused z) e
+
+  pub deep-program : (p : Program) → R ≡ automaton.accepted p → 32 < max (grammar-depth.depth p) (grammar-depth.deepest p) → come ≡ front.refused 7 0
+  unfolding named
+  deep-program p q h = as-read ∙ ap (parsed source ts) q ∙ rw (lt-ltb 32 (max (grammar-depth.depth p) (grammar-depth.deepest p)) h)
 
   -- a program was read, with its rows
   pub record Came (start rows depth deepest : ℕ) (t t′ : List ℕ) : Type 0 where

@@ -4,6 +4,8 @@ use binding::bind;
 use name_table::number;
 use reader::Answer;
 use reader::program;
+use recognizer::Recognized;
+use recognizer::recognize;
 use resolution::resolve;
 use token::Scanned;
 use token::tokens;
@@ -96,8 +98,8 @@ fn place_of(places: &[u32], i: usize, end: u32) -> u32
     }
 }
 
-// The tokens are read, the depth is tested, the names are resolved.
-fn parse(
+// The tokens are read into rows, the depth is tested, the names are resolved.
+fn read(
     source: &[u8],
     kinds: &[u8],
     places: &[u32],
@@ -119,6 +121,24 @@ fn parse(
             }
             names(source, kinds, places, values, table, start, rows, deepest)
         }
+    }
+}
+
+// The tokens are recognized, and read where they are a program.
+fn parse(
+    source: &[u8],
+    kinds: &[u8],
+    places: &[u32],
+    values: &[u32],
+    table: &mut [u32; 4096],
+) -> Analysis
+    requires { ⌜ (length (now source) ≤ 16384) × ((length (now kinds) ≤ 1024) × ((length (now places) ≡ length (now kinds)) × ((length (now values) ≡ length (now kinds)) × (length (now table) ≡ 4096)))) ⌝ }
+    ensures { λ r. ⌜ Parses (now (source .entry)) (scanned.entries (now (kinds .entry)) (now (places .entry)) (now (values .entry)) 0 (length (now (kinds .entry)))) (now (table .exit)) r ⌝ }
+{
+    match recognize(kinds, table) {
+        Recognized::Bad(i) => Analysis::Refused(6, place_of(places, i, source.len() as u32)),
+        Recognized::Deep => Analysis::Refused(7, 0),
+        Recognized::Program => read(source, kinds, places, values, table),
     }
 }
 

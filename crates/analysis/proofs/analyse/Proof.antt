@@ -12,19 +12,6 @@ use borrow.Author.Needs.{needs}
 use Rattle.analysis.proofs.analyse.Statement.{statement}
 use Rattle.analysis.proofs.analyse.Tie as tie
 
--- src/lib.rt:167:9
--- src/lib.rt:169:26
--- src/lib.rt:169:70
--- src/lib.rt:170:23
--- src/lib.rt:171:30
--- src/lib.rt:172:17
--- src/lib.rt:174:29
--- src/lib.rt:174:29
--- src/lib.rt:175:17
--- src/lib.rt:177:13
--- src/lib.rt:155:1
--- src/lib.rt:155:1
-
 pub analyse-spec : {M : Type 1} → statement M
 analyse-spec =
     tie.close

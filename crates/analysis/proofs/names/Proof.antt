@@ -7,14 +7,6 @@ use borrow.Author.Needs.{needs}
 use Rattle.analysis.proofs.names.Statement.{statement}
 use Rattle.analysis.proofs.names.Tie as tie
 
--- src/lib.rt:47:9
--- src/lib.rt:62:27
--- src/lib.rt:63:28
--- src/lib.rt:64:17
--- src/lib.rt:28:1
--- src/lib.rt:28:1
--- src/lib.rt:28:1
-
 pub names-spec : {M : Type 1} → statement M
 names-spec =
     tie.close

@@ -1,23 +1,14 @@
--- `analysis::parse` meets its contract, by the laws of specs/. Assumes nothing.
-use native.Mathlib.Omega.{arith}
-use mathlib.Core.Path.{sym, subst, _∙_}
-use Rattle.front.specs.Front.{Outcome}
-use Rattle.analysis.specs.Analysed.{Analysed}
-use Rattle.analysis.specs.Parsed.{refused-at, came, too-deep, small, as-names, ready}
+-- `analysis::parse` meets its contract, by the laws of specs/Parsed. Assumes nothing.
+use mathlib.Core.Path.{subst}
+use lib.ListN.{length}
+use Rattle.grammar.specs.Automaton.{reads}
+use Rattle.grammar.specs.Tokens.{unread}
+use Rattle.recognizer.specs.declared.Recognized.{Recognized}
+use Rattle.recognizer.specs.Recognized.{Says}
+use Rattle.analysis.specs.Parsed.{recognized-bad, deep-program}
 use borrow.Author.Needs.{needs}
 use Rattle.analysis.proofs.parse.Statement.{statement}
 use Rattle.analysis.proofs.parse.Tie as tie
-
--- src/lib.rt:106:9
--- src/lib.rt:108:25
--- src/lib.rt:109:54
--- src/lib.rt:109:34
--- src/lib.rt:111:25
--- src/lib.rt:113:17
--- src/lib.rt:116:17
--- src/lib.rt:118:13
--- src/lib.rt:96:1
--- src/lib.rt:96:1
 
 pub parse-spec : {M : Type 1} → statement M
 parse-spec =
@@ -28,8 +19,8 @@ parse-spec =
     (λ c. search needs)
     (λ c κs. search needs)
     (λ c. search needs)
-    (λ c. let a = c .before .before .before .before .before .before .before .before .before .before .args in let k = came (a .source .now) (a .kinds .now) (a .places .now) (a .values .now) (c .before .before .before .before .before .before .before .before .before .before .pre .1 .1 .0) (c .before .before .before .before .before .before .before .before .before .before .pre .1 .1 .1 .0) (c .before .before .a2 .given .0 .0) (c .before .before .a2 .given .0 .1 .0) (c .before .before .a2 .given .0 .1 .1 .0) (c .before .before .a2 .given .0 .1 .1 .1 .0) (a .table .now) (c .before .before .before .before .program .last .1 .1 .0) (sym (c .before .before .before .before .program .ensures .0) ∙ c .before .before .a2 .given .1) (c .before .before .before .before .program .ensures .1) in λ o. too-deep (a .source .now) (a .kinds .now) (a .places .now) (a .values .now) (c .before .before .before .before .before .before .before .before .before .before .pre .1 .1 .0) (c .before .before .before .before .before .before .before .before .before .before .pre .1 .1 .1 .0) (c .before .before .a2 .given .0 .0) (c .before .before .a2 .given .0 .1 .0) (c .before .before .a2 .given .0 .1 .1 .0) (c .before .before .a2 .given .0 .1 .1 .1 .0) (a .table .now) (c .before .before .before .before .program .last .1 .1 .0) k (omega (arith, c .if1 .taken)))
-    (λ c. let a = c .before .before .before .before .before .before .before .before .before .before .before .args in let k = came (a .source .now) (a .kinds .now) (a .places .now) (a .values .now) (c .before .before .before .before .before .before .before .before .before .before .before .pre .1 .1 .0) (c .before .before .before .before .before .before .before .before .before .before .before .pre .1 .1 .1 .0) (c .before .before .before .a2 .given .0 .0) (c .before .before .before .a2 .given .0 .1 .0) (c .before .before .before .a2 .given .0 .1 .1 .0) (c .before .before .before .a2 .given .0 .1 .1 .1 .0) (a .table .now) (c .before .before .before .before .before .program .last .1 .1 .0) (sym (c .before .before .before .before .before .program .ensures .0) ∙ c .before .before .before .a2 .given .1) (c .before .before .before .before .before .program .ensures .1) in λ o. too-deep (a .source .now) (a .kinds .now) (a .places .now) (a .values .now) (c .before .before .before .before .before .before .before .before .before .before .before .pre .1 .1 .0) (c .before .before .before .before .before .before .before .before .before .before .before .pre .1 .1 .1 .0) (c .before .before .before .a2 .given .0 .0) (c .before .before .before .a2 .given .0 .1 .0) (c .before .before .before .a2 .given .0 .1 .1 .0) (c .before .before .before .a2 .given .0 .1 .1 .1 .0) (a .table .now) (c .before .before .before .before .before .program .last .1 .1 .0) k (omega (arith, c .if2 .taken)))
-    (λ c κs. let a = c .before .before .before .before .before .before .before .before .before .before .before .before .args in let k = came (a .source .now) (a .kinds .now) (a .places .now) (a .values .now) (c .before .before .before .before .before .before .before .before .before .before .before .before .pre .1 .1 .0) (c .before .before .before .before .before .before .before .before .before .before .before .before .pre .1 .1 .1 .0) (c .before .before .before .before .a2 .given .0 .0) (c .before .before .before .before .a2 .given .0 .1 .0) (c .before .before .before .before .a2 .given .0 .1 .1 .0) (c .before .before .before .before .a2 .given .0 .1 .1 .1 .0) (a .table .now) (c .before .before .before .before .before .before .program .last .1 .1 .0) (sym (c .before .before .before .before .before .before .program .ensures .0) ∙ c .before .before .before .before .a2 .given .1) (c .before .before .before .before .before .before .program .ensures .1) in small (a .source .now) (a .kinds .now) (a .places .now) (a .values .now) (c .before .before .before .before .before .before .before .before .before .before .before .before .pre .1 .1 .0) (c .before .before .before .before .before .before .before .before .before .before .before .before .pre .1 .1 .1 .0) (c .before .before .before .before .a2 .given .0 .0) (c .before .before .before .before .a2 .given .0 .1 .0) (c .before .before .before .before .a2 .given .0 .1 .1 .0) (c .before .before .before .before .a2 .given .0 .1 .1 .1 .0) (a .table .now) (c .before .before .before .before .before .before .program .last .1 .1 .0) k (c .before .before .before .before .before .before .before .before .before .before .before .before .pre .1 .0))
-    (λ c. let a = c .before .before .before .before .before .before .before .before .before .before .args in λ o. refused-at (a .source .now) (a .kinds .now) (a .places .now) (a .values .now) (c .before .before .before .before .before .before .before .before .before .before .pre .1 .1 .0) (c .before .before .before .before .before .before .before .before .before .before .pre .1 .1 .1 .0) (c .before .before .a .given .0 .0) _ (sym (c .before .before .before .before .program .ensures .0) ∙ c .before .before .a .given .1) (c .place-of .ensures))
-    (λ c. let a = c .before .before .before .before .before .before .before .before .before .before .before .before .before .args in let k = came (a .source .now) (a .kinds .now) (a .places .now) (a .values .now) (c .before .before .before .before .before .before .before .before .before .before .before .before .before .pre .1 .1 .0) (c .before .before .before .before .before .before .before .before .before .before .before .before .before .pre .1 .1 .1 .0) (c .before .before .before .before .before .a2 .given .0 .0) (c .before .before .before .before .before .a2 .given .0 .1 .0) (c .before .before .before .before .before .a2 .given .0 .1 .1 .0) (c .before .before .before .before .before .a2 .given .0 .1 .1 .1 .0) (a .table .now) (c .before .before .before .before .before .before .before .program .last .1 .1 .0) (sym (c .before .before .before .before .before .before .before .program .ensures .0) ∙ c .before .before .before .before .before .a2 .given .1) (c .before .before .before .before .before .before .before .program .ensures .1) in λ o. subst (λ (x : Outcome). Analysed x (c .names .last .1 .1 .1 .1 .0) (c .names .result)) (sym (as-names (a .source .now) (a .kinds .now) (a .places .now) (a .values .now) (c .before .before .before .before .before .before .before .before .before .before .before .before .before .pre .1 .1 .0) (c .before .before .before .before .before .before .before .before .before .before .before .before .before .pre .1 .1 .1 .0) (c .before .before .before .before .before .a2 .given .0 .0) (c .before .before .before .before .before .a2 .given .0 .1 .0) (c .before .before .before .before .before .a2 .given .0 .1 .1 .0) (c .before .before .before .before .before .a2 .given .0 .1 .1 .1 .0) (a .table .now) (c .before .before .before .before .before .before .before .program .last .1 .1 .0) k (omega (arith, c .before .before .before .if1 .left, c .before .before .if2 .left)))) (c .names .ensures (k .tree) (ready (a .source .now) (a .kinds .now) (a .places .now) (a .values .now) (c .before .before .before .before .before .before .before .before .before .before .before .before .before .pre .1 .1 .0) (c .before .before .before .before .before .before .before .before .before .before .before .before .before .pre .1 .1 .1 .0) (c .before .before .before .before .before .a2 .given .0 .0) (c .before .before .before .before .before .a2 .given .0 .1 .0) (c .before .before .before .before .before .a2 .given .0 .1 .1 .0) (c .before .before .before .before .before .a2 .given .0 .1 .1 .1 .0) (a .table .now) (c .before .before .before .before .before .before .before .program .last .1 .1 .0) k o (c .before .before .before .before .before .before .before .before .before .before .before .before .before .pre .1 .1 .1 .1) (c .before .before .before .before .before .before .before .before .before .before .before .before .before .pre .1 .0)))))
+    (λ c. search needs)
+    (λ c κs. search needs)
+    (λ c. let a = c .before .before .before .before .before .before .before .before .before .before .args in let q = c .before .before .before .before .before .before .before .before .before .before .pre in λ o. recognized-bad (a .source .now) (a .kinds .now) (a .places .now) (a .values .now) (q .1 .1 .0) (q .1 .1 .1 .0) (c .before .before .i .given .0 .0) _ (subst (λ (r : Recognized). Says (length (a .kinds .now)) (reads (unread (a .kinds .now) (a .values .now) 0)) r) (c .before .before .i .given .1) (c .before .before .before .before .recognize .ensures .0 (a .values .now))) (c .place-of .ensures))
+    (λ c. let a = c .before .before .before .before .before .before .before .before .args in let q = c .before .before .before .before .before .before .before .before .pre in let s = subst (λ (r : Recognized). Says (length (a .kinds .now)) (reads (unread (a .kinds .now) (a .values .now) 0)) r) (c .enum-told .given .1) (c .before .before .recognize .ensures .0 (a .values .now)) in λ o. deep-program (a .source .now) (a .kinds .now) (a .places .now) (a .values .now) (q .1 .1 .0) (q .1 .1 .1 .0) (s .0) (s .1) (s .2))
+    (λ c. search needs))

@@ -11,12 +11,6 @@ use Rattle.analysis.specs.Arrays.{entries-take}
 use Rattle.analysis.proofs.parse_first.Statement.{statement}
 use Rattle.analysis.proofs.parse_first.Tie as tie
 
--- src/lib.rt:135:19
--- src/lib.rt:135:32
--- src/lib.rt:135:46
--- src/lib.rt:135:5
--- src/lib.rt:124:1
-
 pub parse-first-spec : {M : Type 1} → statement M
 parse-first-spec =
     tie.close

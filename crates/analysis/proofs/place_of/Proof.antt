@@ -5,10 +5,6 @@ use borrow.Author.Needs.{needs}
 use Rattle.analysis.proofs.place_of.Statement.{statement}
 use Rattle.analysis.proofs.place_of.Tie as tie
 
--- src/lib.rt:92:27
--- src/lib.rt:89:1
--- src/lib.rt:89:1
-
 pub place-of-spec : {M : Type 1} → statement M
 place-of-spec = tie.close (tie.spec
     (λ c κs. search needs)

@@ -1,26 +1,8 @@
+-- `recognizer::after_expression` meets its contract, by its tests.
 use Rattle.word.specs.Tests.{tests}
 use borrow.Author.Needs.{needs}
 use Rattle.recognizer.proofs.after_expression.Statement.{statement}
 use Rattle.recognizer.proofs.after_expression.Tie as tie
-
--- src/lib.rt:160:29
--- src/lib.rt:160:9
--- src/lib.rt:160:9
--- src/lib.rt:163:30
--- src/lib.rt:163:9
--- src/lib.rt:163:9
--- src/lib.rt:166:43
--- src/lib.rt:166:30
--- src/lib.rt:166:9
--- src/lib.rt:166:9
--- src/lib.rt:169:29
--- src/lib.rt:169:9
--- src/lib.rt:169:9
--- src/lib.rt:172:29
--- src/lib.rt:172:9
--- src/lib.rt:172:9
--- src/lib.rt:174:5
--- src/lib.rt:156:1
 
 pub after-expression-spec : {M : Type 1} → statement M
 after-expression-spec =

@@ -1,13 +1,8 @@
+-- `recognizer::after_name` meets its contract, by its tests.
 use Rattle.word.specs.Tests.{tests}
 use borrow.Author.Needs.{needs}
 use Rattle.recognizer.proofs.after_name.Statement.{statement}
 use Rattle.recognizer.proofs.after_name.Tie as tie
-
--- src/lib.rt:351:26
--- src/lib.rt:351:9
--- src/lib.rt:351:9
--- src/lib.rt:353:5
--- src/lib.rt:347:1
 
 pub after-name-spec : {M : Type 1} → statement M
 after-name-spec =

@@ -1,21 +1,8 @@
+-- `recognizer::after_operand` meets its contract, by its tests.
 use Rattle.word.specs.Tests.{tests}
 use borrow.Author.Needs.{needs}
 use Rattle.recognizer.proofs.after_operand.Statement.{statement}
 use Rattle.recognizer.proofs.after_operand.Tie as tie
-
--- src/lib.rt:197:12
--- src/lib.rt:198:29
--- src/lib.rt:198:43
--- src/lib.rt:198:13
--- src/lib.rt:198:13
--- src/lib.rt:200:9
--- src/lib.rt:200:9
--- src/lib.rt:202:8
--- src/lib.rt:203:28
--- src/lib.rt:203:9
--- src/lib.rt:203:9
--- src/lib.rt:205:5
--- src/lib.rt:193:1
 
 pub after-operand-spec : {M : Type 1} → statement M
 after-operand-spec =

@@ -1,20 +1,8 @@
+-- `recognizer::after_process` meets its contract, by its tests.
 use Rattle.word.specs.Tests.{tests}
 use borrow.Author.Needs.{needs}
 use Rattle.recognizer.proofs.after_process.Statement.{statement}
 use Rattle.recognizer.proofs.after_process.Tie as tie
-
--- src/lib.rt:144:43
--- src/lib.rt:144:30
--- src/lib.rt:144:9
--- src/lib.rt:144:9
--- src/lib.rt:148:32
--- src/lib.rt:148:13
--- src/lib.rt:148:13
--- src/lib.rt:150:29
--- src/lib.rt:150:9
--- src/lib.rt:150:9
--- src/lib.rt:152:5
--- src/lib.rt:140:1
 
 pub after-process-spec : {M : Type 1} → statement M
 after-process-spec =

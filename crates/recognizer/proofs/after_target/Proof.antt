@@ -1,13 +1,8 @@
+-- `recognizer::after_target` meets its contract, by its tests.
 use Rattle.word.specs.Tests.{tests}
 use borrow.Author.Needs.{needs}
 use Rattle.recognizer.proofs.after_target.Statement.{statement}
 use Rattle.recognizer.proofs.after_target.Tie as tie
-
--- src/lib.rt:318:9
--- src/lib.rt:318:9
--- src/lib.rt:320:18
--- src/lib.rt:320:5
--- src/lib.rt:314:1
 
 pub after-target-spec : {M : Type 1} → statement M
 after-target-spec =

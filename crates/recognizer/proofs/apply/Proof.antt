@@ -1,14 +1,9 @@
+-- `recognizer::apply` meets its contract, by the laws of specs/Stack.
 use Rattle.recognizer.specs.Stack.{act-kept, act-pushed, popped-fits, long-pushed}
 use native.Mathlib.Omega.{arith}
 use borrow.Author.Needs.{needs}
 use Rattle.recognizer.proofs.apply.Statement.{statement}
 use Rattle.recognizer.proofs.apply.Tie as tie
-
--- src/lib.rt:422:9
--- src/lib.rt:424:9
--- src/lib.rt:431:5
--- src/lib.rt:436:17
--- src/lib.rt:418:1
 
 pub apply-spec : {M : Type 1} → statement M
 apply-spec = tie.close (tie.spec

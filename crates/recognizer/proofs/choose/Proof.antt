@@ -1,10 +1,8 @@
+-- `recognizer::choose` meets its contract, by its tests.
 use Rattle.word.specs.Tests.{tests}
 use borrow.Author.Needs.{needs}
 use Rattle.recognizer.proofs.choose.Statement.{statement}
 use Rattle.recognizer.proofs.choose.Tie as tie
-
--- src/lib.rt:113:16
--- src/lib.rt:107:1
 
 pub choose-spec : {M : Type 1} → statement M
 choose-spec = tie.close (tie.spec

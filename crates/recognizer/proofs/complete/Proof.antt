@@ -1,10 +1,7 @@
+-- `recognizer::complete` meets its contract, by its tests.
 use Rattle.word.specs.Tests.{tests}
 use Rattle.recognizer.proofs.complete.Statement.{statement}
 use Rattle.recognizer.proofs.complete.Tie as tie
-
--- src/lib.rt:468:13
--- src/lib.rt:470:9
--- src/lib.rt:463:1
 
 pub complete-spec : {M : Type 1} → statement M
 complete-spec = tie.close (tie.spec

@@ -1,16 +1,8 @@
+-- `recognizer::decide` meets its contract, by its tests.
 use Rattle.word.specs.Tests.{tests}
 use borrow.Author.Needs.{needs}
 use Rattle.recognizer.proofs.decide.Statement.{statement}
 use Rattle.recognizer.proofs.decide.Tie as tie
-
--- src/lib.rt:368:9
--- src/lib.rt:368:9
--- src/lib.rt:371:9
--- src/lib.rt:371:9
--- src/lib.rt:374:9
--- src/lib.rt:374:9
--- src/lib.rt:376:5
--- src/lib.rt:364:1
 
 pub decide-spec : {M : Type 1} → statement M
 decide-spec =

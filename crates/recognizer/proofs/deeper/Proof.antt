@@ -1,11 +1,8 @@
+-- `recognizer::deeper` meets its contract, by its tests.
 use Rattle.word.specs.Tests.{tests}
 use borrow.Author.Needs.{needs}
 use Rattle.recognizer.proofs.deeper.Statement.{statement}
 use Rattle.recognizer.proofs.deeper.Tie as tie
-
--- src/lib.rt:50:21
--- src/lib.rt:47:1
--- src/lib.rt:47:1
 
 pub deeper-spec : {M : Type 1} → statement M
 deeper-spec = tie.close (tie.spec

@@ -1,13 +1,8 @@
+-- `recognizer::expect_constant` meets its contract, by its tests.
 use Rattle.word.specs.Tests.{tests}
 use borrow.Author.Needs.{needs}
 use Rattle.recognizer.proofs.expect_constant.Statement.{statement}
 use Rattle.recognizer.proofs.expect_constant.Tie as tie
-
--- src/lib.rt:258:9
--- src/lib.rt:258:9
--- src/lib.rt:260:18
--- src/lib.rt:260:5
--- src/lib.rt:254:1
 
 pub expect-constant-spec : {M : Type 1} → statement M
 expect-constant-spec =

@@ -1,16 +1,8 @@
+-- `recognizer::in_expression` meets its contract, by its tests.
 use Rattle.word.specs.Tests.{tests}
 use borrow.Author.Needs.{needs}
 use Rattle.recognizer.proofs.in_expression.Statement.{statement}
 use Rattle.recognizer.proofs.in_expression.Tie as tie
-
--- src/lib.rt:361:9
--- src/lib.rt:361:9
--- src/lib.rt:364:9
--- src/lib.rt:364:9
--- src/lib.rt:367:9
--- src/lib.rt:367:9
--- src/lib.rt:369:5
--- src/lib.rt:357:1
 
 pub in-expression-spec : {M : Type 1} → statement M
 in-expression-spec =

@@ -1,22 +1,8 @@
+-- `recognizer::in_process` meets its contract, by its tests.
 use Rattle.word.specs.Tests.{tests}
 use borrow.Author.Needs.{needs}
 use Rattle.recognizer.proofs.in_process.Statement.{statement}
 use Rattle.recognizer.proofs.in_process.Tie as tie
-
--- src/lib.rt:328:9
--- src/lib.rt:328:9
--- src/lib.rt:332:13
--- src/lib.rt:332:13
--- src/lib.rt:334:30
--- src/lib.rt:334:9
--- src/lib.rt:334:9
--- src/lib.rt:337:9
--- src/lib.rt:337:9
--- src/lib.rt:340:30
--- src/lib.rt:340:9
--- src/lib.rt:340:9
--- src/lib.rt:342:5
--- src/lib.rt:324:1
 
 pub in-process-spec : {M : Type 1} → statement M
 in-process-spec =

@@ -1,25 +1,10 @@
+-- `recognizer::innermost` meets its contract, by the laws of specs/Stack.
 use Rattle.recognizer.specs.Stack.{frames-none, frames-some}
 use native.Mathlib.Omega.{arith}
 use Prim.Native.Nat.{_-_}
 use borrow.Author.Needs.{needs}
 use Rattle.recognizer.proofs.innermost.Statement.{statement}
 use Rattle.recognizer.proofs.innermost.Tie as tie
-
--- src/lib.rt:394:9
--- src/lib.rt:394:9
--- src/lib.rt:396:13
--- src/lib.rt:398:21
--- src/lib.rt:398:15
--- src/lib.rt:398:15
--- src/lib.rt:399:25
--- src/lib.rt:399:25
--- src/lib.rt:399:19
--- src/lib.rt:399:19
--- src/lib.rt:400:22
--- src/lib.rt:400:22
--- src/lib.rt:400:16
--- src/lib.rt:400:16
--- src/lib.rt:389:1
 
 pub innermost-spec : {M : Type 1} → statement M
 innermost-spec =

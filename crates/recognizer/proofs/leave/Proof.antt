@@ -1,10 +1,8 @@
+-- `recognizer::leave` meets its contract, by its tests.
 use Rattle.word.specs.Tests.{tests}
 use borrow.Author.Needs.{needs}
 use Rattle.recognizer.proofs.leave.Statement.{statement}
 use Rattle.recognizer.proofs.leave.Tie as tie
-
--- src/lib.rt:85:17
--- src/lib.rt:77:1
 
 pub leave-spec : {M : Type 1} → statement M
 leave-spec = tie.close (tie.spec

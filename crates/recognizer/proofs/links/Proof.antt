@@ -1,15 +1,10 @@
+-- `recognizer::links` meets its contract, by the laws of specs/Stack.
 use Rattle.recognizer.specs.Stack.{links-plus, links-other, links-small, links-large}
 use mathlib.Core.Path.{sym}
 use native.Mathlib.Omega.{arith}
 use borrow.Author.Needs.{needs}
 use Rattle.recognizer.proofs.links.Statement.{statement}
 use Rattle.recognizer.proofs.links.Tie as tie
-
--- src/lib.rt:183:9
--- src/lib.rt:187:32
--- src/lib.rt:187:13
--- src/lib.rt:179:1
--- src/lib.rt:179:1
 
 pub links-spec : {M : Type 1} → statement M
 links-spec = tie.close (tie.spec

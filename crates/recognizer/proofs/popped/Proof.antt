@@ -1,12 +1,8 @@
+-- `recognizer::popped` meets its contract, by its tests.
 use native.Mathlib.Omega.{arith}
 use borrow.Author.Needs.{needs}
 use Rattle.recognizer.proofs.popped.Statement.{statement}
 use Rattle.recognizer.proofs.popped.Tie as tie
-
--- src/lib.rt:410:20
--- src/lib.rt:410:13
--- src/lib.rt:412:9
--- src/lib.rt:405:1
 
 pub popped-spec : {M : Type 1} → statement M
 popped-spec = tie.close (tie.spec

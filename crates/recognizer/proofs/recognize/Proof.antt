@@ -1,3 +1,4 @@
+-- `recognizer::recognize` meets its contract. The invariant: the automaton's state at token i is the configuration of control and table, and where level 32 was reached all it accepts is too deep.
 use mathlib.Core.Path.{_≡_, refl, sym, ap, subst, _∙_}
 use mathlib.Core.List.{List}
 use Prim.Native.Nat.{ℕ, _+_, _-_, _≤_}
@@ -17,18 +18,6 @@ Inv-loop kinds table₀ c₀ deep₀ i₀ table c deep i = (i ≤ length kinds) 
 
 abbrev μ-loop : tie.MeasureT-loop
 μ-loop kinds table₀ c₀ deep₀ i₀ table c deep i = length kinds - i
-
--- src/lib.rt:501:5
--- src/lib.rt:502:31
--- src/lib.rt:502:9
--- src/lib.rt:504:13
--- src/lib.rt:506:9
--- src/lib.rt:507:9
--- src/lib.rt:501:5
--- src/lib.rt:501:5
--- src/lib.rt:509:12
--- src/lib.rt:509:5
--- src/lib.rt:489:1
 
 pub recognize-spec : {M : Type 1} → statement M
 recognize-spec =

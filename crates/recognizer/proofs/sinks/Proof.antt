@@ -1,9 +1,7 @@
+-- `recognizer::sinks` meets its contract, by its tests.
 use Rattle.word.specs.Tests.{tests}
 use Rattle.recognizer.proofs.sinks.Statement.{statement}
 use Rattle.recognizer.proofs.sinks.Tie as tie
-
--- src/lib.rt:457:9
--- src/lib.rt:453:1
 
 pub sinks-spec : {M : Type 1} → statement M
 sinks-spec = tie.close (tie.spec

@@ -1,33 +1,8 @@
+-- `recognizer::specify` meets its contract, by its tests.
 use Rattle.word.specs.Tests.{tests}
 use borrow.Author.Needs.{needs}
 use Rattle.recognizer.proofs.specify.Statement.{statement}
 use Rattle.recognizer.proofs.specify.Tie as tie
-
--- src/lib.rt:268:29
--- src/lib.rt:268:9
--- src/lib.rt:268:9
--- src/lib.rt:271:29
--- src/lib.rt:271:9
--- src/lib.rt:271:9
--- src/lib.rt:274:29
--- src/lib.rt:274:9
--- src/lib.rt:274:9
--- src/lib.rt:277:9
--- src/lib.rt:277:9
--- src/lib.rt:280:29
--- src/lib.rt:280:9
--- src/lib.rt:280:9
--- src/lib.rt:283:29
--- src/lib.rt:283:9
--- src/lib.rt:283:9
--- src/lib.rt:286:30
--- src/lib.rt:286:9
--- src/lib.rt:286:9
--- src/lib.rt:289:9
--- src/lib.rt:289:9
--- src/lib.rt:291:19
--- src/lib.rt:291:5
--- src/lib.rt:264:1
 
 pub specify-spec : {M : Type 1} → statement M
 specify-spec =

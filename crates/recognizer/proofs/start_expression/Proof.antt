@@ -1,14 +1,8 @@
+-- `recognizer::start_expression` meets its contract, by its tests.
 use Rattle.word.specs.Tests.{tests}
 use borrow.Author.Needs.{needs}
 use Rattle.recognizer.proofs.start_expression.Statement.{statement}
 use Rattle.recognizer.proofs.start_expression.Tie as tie
-
--- src/lib.rt:223:8
--- src/lib.rt:224:28
--- src/lib.rt:224:9
--- src/lib.rt:224:9
--- src/lib.rt:226:5
--- src/lib.rt:220:1
 
 pub start-expression-spec : {M : Type 1} → statement M
 start-expression-spec =

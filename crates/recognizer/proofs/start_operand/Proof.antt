@@ -1,16 +1,8 @@
+-- `recognizer::start_operand` meets its contract, by its tests.
 use Rattle.word.specs.Tests.{tests}
 use borrow.Author.Needs.{needs}
 use Rattle.recognizer.proofs.start_operand.Statement.{statement}
 use Rattle.recognizer.proofs.start_operand.Tie as tie
-
--- src/lib.rt:212:9
--- src/lib.rt:212:9
--- src/lib.rt:215:9
--- src/lib.rt:215:9
--- src/lib.rt:217:28
--- src/lib.rt:217:18
--- src/lib.rt:217:5
--- src/lib.rt:208:1
 
 pub start-operand-spec : {M : Type 1} → statement M
 start-operand-spec =

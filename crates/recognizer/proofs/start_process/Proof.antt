@@ -1,23 +1,8 @@
+-- `recognizer::start_process` meets its contract, by its tests.
 use Rattle.word.specs.Tests.{tests}
 use borrow.Author.Needs.{needs}
 use Rattle.recognizer.proofs.start_process.Statement.{statement}
 use Rattle.recognizer.proofs.start_process.Tie as tie
-
--- src/lib.rt:233:9
--- src/lib.rt:233:9
--- src/lib.rt:236:9
--- src/lib.rt:236:9
--- src/lib.rt:239:9
--- src/lib.rt:239:9
--- src/lib.rt:242:9
--- src/lib.rt:242:9
--- src/lib.rt:245:9
--- src/lib.rt:245:9
--- src/lib.rt:248:9
--- src/lib.rt:248:9
--- src/lib.rt:250:18
--- src/lib.rt:250:5
--- src/lib.rt:229:1
 
 pub start-process-spec : {M : Type 1} → statement M
 start-process-spec =

@@ -1,18 +1,8 @@
+-- `recognizer::start_program` meets its contract, by its tests.
 use Rattle.word.specs.Tests.{tests}
 use borrow.Author.Needs.{needs}
 use Rattle.recognizer.proofs.start_program.Statement.{statement}
 use Rattle.recognizer.proofs.start_program.Tie as tie
-
--- src/lib.rt:299:9
--- src/lib.rt:299:9
--- src/lib.rt:302:9
--- src/lib.rt:302:9
--- src/lib.rt:305:9
--- src/lib.rt:305:9
--- src/lib.rt:308:9
--- src/lib.rt:308:9
--- src/lib.rt:310:5
--- src/lib.rt:295:1
 
 pub start-program-spec : {M : Type 1} → statement M
 start-program-spec =

@@ -1,10 +1,8 @@
+-- `recognizer::stay` meets its contract, by its tests.
 use Rattle.word.specs.Tests.{tests}
 use borrow.Author.Needs.{needs}
 use Rattle.recognizer.proofs.stay.Statement.{statement}
 use Rattle.recognizer.proofs.stay.Tie as tie
-
--- src/lib.rt:72:17
--- src/lib.rt:64:1
 
 pub stay-spec : {M : Type 1} → statement M
 stay-spec = tie.close (tie.spec
