@@ -15,33 +15,26 @@ Inv-loop bytes₀ n i₀ bytes i = (length bytes ≡ length bytes₀) × (cleare
 abbrev μ-loop : tie.MeasureT-loop
 μ-loop bytes₀ n i₀ bytes i = length bytes₀ - i
 
--- src/lib.rt:25:5
 loop-holds : tie.Need-loop-holds Inv-loop μ-loop
 loop-holds c = (refl, refl)
 
--- src/lib.rt:26:9
 slice-write-bytes : tie.Need-slice-write-bytes Inv-loop μ-loop
 slice-write-bytes c = omega arith
 
--- src/lib.rt:27:9
 add-i : tie.Need-add-i Inv-loop μ-loop
 add-i c = omega arith
 
--- src/lib.rt:25:5
 loop-less : tie.Need-loop-less Inv-loop μ-loop
 loop-less c = omega arith
 
--- src/lib.rt:25:5
 loop-again : tie.Need-loop-again Inv-loop μ-loop
 loop-again c =
     let v = c .before .loop .inv in
     (simp length-set (v .0), cleared-more (c .before .loop .bytes) (c .before .loop .i) _ (omega arith) (v .0) ∙ v .1)
 
--- src/lib.rt:20:1
 same-length : tie.Need-same-length Inv-loop μ-loop
 same-length c = omega arith
 
--- src/lib.rt:20:1
 returns : tie.Need-returns Inv-loop μ-loop
 unfolding cleared
 returns c =

@@ -15,37 +15,29 @@ Inv-loop words₀ n i₀ words i = (length words ≡ length words₀) × (cleare
 abbrev μ-loop : tie.MeasureT-loop
 μ-loop words₀ n i₀ words i = length words₀ - i
 
--- src/lib.rt:13:5
 loop-holds : tie.Need-loop-holds Inv-loop μ-loop
 loop-holds c = (refl, refl)
 
--- src/lib.rt:14:9
 mul-words : tie.Need-mul-words Inv-loop μ-loop
 mul-words c = omega arith
 
--- src/lib.rt:14:9
 slice-write-words : tie.Need-slice-write-words Inv-loop μ-loop
 slice-write-words c = omega arith
 
--- src/lib.rt:15:9
 add-i : tie.Need-add-i Inv-loop μ-loop
 add-i c = omega arith
 
--- src/lib.rt:13:5
 loop-less : tie.Need-loop-less Inv-loop μ-loop
 loop-less c = omega arith
 
--- src/lib.rt:13:5
 loop-again : tie.Need-loop-again Inv-loop μ-loop
 loop-again c =
     let v = c .before .loop .inv in
     (simp length-set (v .0), cleared-more (c .before .loop .words) (c .before .loop .i) _ (omega arith) (v .0) ∙ v .1)
 
--- src/lib.rt:8:1
 same-length : tie.Need-same-length Inv-loop μ-loop
 same-length c = omega arith
 
--- src/lib.rt:8:1
 returns : tie.Need-returns Inv-loop μ-loop
 unfolding cleared
 returns c =

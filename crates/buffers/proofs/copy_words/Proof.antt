@@ -16,35 +16,27 @@ Inv-loop from to₀ n i₀ to i = (i ≤ n) × (length to ≡ length to₀) × (
 abbrev μ-loop : tie.MeasureT-loop
 μ-loop from to₀ n i₀ to i = n - i
 
--- src/lib.rt:37:5
 loop-holds : tie.Need-loop-holds Inv-loop μ-loop
 loop-holds c = (omega arith, refl, sym (copied-none _ _))
 
--- src/lib.rt:38:17
 mul-to : tie.Need-mul-to Inv-loop μ-loop
 mul-to c = omega arith
 
--- src/lib.rt:38:17
 shared-slice-read-to : tie.Need-shared-slice-read-to Inv-loop μ-loop
 shared-slice-read-to c = omega arith
 
--- src/lib.rt:38:9
 mul-to-2 : tie.Need-mul-to-2 Inv-loop μ-loop
 mul-to-2 c = omega arith
 
--- src/lib.rt:38:9
 slice-write-to : tie.Need-slice-write-to Inv-loop μ-loop
 slice-write-to c = omega arith
 
--- src/lib.rt:39:9
 add-i : tie.Need-add-i Inv-loop μ-loop
 add-i c = omega arith
 
--- src/lib.rt:37:5
 loop-less : tie.Need-loop-less Inv-loop μ-loop
 loop-less c = omega arith
 
--- src/lib.rt:37:5
 loop-again : tie.Need-loop-again Inv-loop μ-loop
 loop-again c =
     let l = c .before .before .loop in
@@ -52,11 +44,9 @@ loop-again c =
     let v = l .inv in
     (omega arith, simp length-set (v .1), ap (λ (t : List ℕ). set t (l .i) (getD (a .from .now) (l .i) 0)) (v .2) ∙ copied-more (a .from .now) (a .to .now) (l .i) (omega arith) (omega arith))
 
--- src/lib.rt:32:1
 same-length : tie.Need-same-length Inv-loop μ-loop
 same-length c = omega arith
 
--- src/lib.rt:32:1
 returns : tie.Need-returns Inv-loop μ-loop
 unfolding copied
 returns c =

@@ -5,16 +5,6 @@ use borrow.Author.Needs.{needs}
 use Rattle.resolution.proofs.complaint.Statement.{statement}
 use Rattle.resolution.proofs.complaint.Tie as tie
 
--- src/lib.rt:112:9
--- src/lib.rt:114:9
--- src/lib.rt:116:9
--- src/lib.rt:118:9
--- src/lib.rt:108:1
--- src/lib.rt:108:1
--- src/lib.rt:108:1
--- src/lib.rt:108:1
--- src/lib.rt:108:1
-
 pub complaint-spec : {M : Type 1} → statement M
 complaint-spec =
     tie.close

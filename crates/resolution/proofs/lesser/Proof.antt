@@ -4,13 +4,6 @@ use Rattle.resolution.specs.Walk.{lesser-first, lesser-second, lesser-pl
 use Rattle.resolution.proofs.lesser.Statement.{statement}
 use Rattle.resolution.proofs.lesser.Tie as tie
 
--- src/lib.rt:29:9
--- src/lib.rt:32:9
--- src/lib.rt:35:9
--- src/lib.rt:39:13
--- src/lib.rt:25:1
--- src/lib.rt:25:1
-
 pub lesser-spec : {M : Type 1} → statement M
 lesser-spec = tie.close (tie.spec
     (λ c. let x = c .before .before .args in lesser-first (x .a .number) (x .a .place) (x .b .number) (x .b .place) (omega arith))

@@ -3,10 +3,6 @@ use Rattle.word.specs.Tests.{tests}
 use Rattle.resolution.proofs.names_one.Statement.{statement}
 use Rattle.resolution.proofs.names_one.Tie as tie
 
--- src/lib.rt:125:1
--- src/lib.rt:125:1
--- src/lib.rt:125:1
-
 pub names-one-spec : {M : Type 1} → statement M
 names-one-spec = tie.close (tie.spec
     (λ c. search tests depth 20)

@@ -4,10 +4,6 @@ use Rattle.resolution.specs.Walk.{only}
 use Rattle.resolution.proofs.only.Statement.{statement}
 use Rattle.resolution.proofs.only.Tie as tie
 
--- src/lib.rt:95:1
--- src/lib.rt:95:1
--- src/lib.rt:95:1
-
 pub only-spec : {M : Type 1} → statement M
 only-spec = tie.close (tie.spec
     (λ c. unfold only in search tests depth 20)

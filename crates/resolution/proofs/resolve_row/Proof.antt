@@ -10,20 +10,6 @@ use borrow.Author.Needs.{needs}
 use Rattle.resolution.proofs.resolve_row.Statement.{statement}
 use Rattle.resolution.proofs.resolve_row.Tie as tie
 
--- src/lib.rt:151:12
--- src/lib.rt:152:30
--- src/lib.rt:152:13
--- src/lib.rt:154:30
--- src/lib.rt:154:13
--- src/lib.rt:156:15
--- src/lib.rt:157:26
--- src/lib.rt:157:9
--- src/lib.rt:159:9
--- src/lib.rt:146:1
--- src/lib.rt:146:1
--- src/lib.rt:146:1
--- src/lib.rt:146:1
-
 pub resolve-row-spec : {M : Type 1} → statement M
 resolve-row-spec =
     tie.close

@@ -4,10 +4,6 @@ use Rattle.resolution.specs.Walk.{unless}
 use Rattle.resolution.proofs.unless.Statement.{statement}
 use Rattle.resolution.proofs.unless.Tie as tie
 
--- src/lib.rt:82:1
--- src/lib.rt:82:1
--- src/lib.rt:82:1
-
 pub unless-spec : {M : Type 1} → statement M
 unless-spec = tie.close (tie.spec
     (λ c. unfold unless in search tests depth 20)

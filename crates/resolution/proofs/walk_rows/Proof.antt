@@ -20,32 +20,6 @@ abbrev μ-loop : tie.MeasureT-loop
 μ-loop source places lengths name-places name-lengths rows sorts words sizes count table₀ first end least₀ r₀ table least r =
     end - r
 
--- src/lib.rt:187:5
--- src/lib.rt:188:30
--- src/lib.rt:188:13
--- src/lib.rt:189:30
--- src/lib.rt:189:30
--- src/lib.rt:189:13
--- src/lib.rt:190:30
--- src/lib.rt:190:30
--- src/lib.rt:190:13
--- src/lib.rt:191:30
--- src/lib.rt:191:30
--- src/lib.rt:191:13
--- src/lib.rt:192:32
--- src/lib.rt:192:13
--- src/lib.rt:193:33
--- src/lib.rt:193:13
--- src/lib.rt:194:13
--- src/lib.rt:207:34
--- src/lib.rt:207:21
--- src/lib.rt:210:9
--- src/lib.rt:211:9
--- src/lib.rt:212:9
--- src/lib.rt:187:5
--- src/lib.rt:187:5
--- src/lib.rt:164:1
-
 pub walk-rows-spec : {M : Type 1} → statement M
 walk-rows-spec =
     tie.close

@@ -14,16 +14,6 @@ use borrow.Author.Needs.{needs}
 use Rattle.translate.proofs.accept.Statement.{statement}
 use Rattle.translate.proofs.accept.Tie as tie
 
--- src/lib.rt:84:5
--- src/lib.rt:85:9
--- src/lib.rt:89:17
--- src/lib.rt:90:15
--- src/lib.rt:92:16
--- src/lib.rt:93:15
--- src/lib.rt:72:1
--- src/lib.rt:72:1
--- src/lib.rt:72:1
-
 pub accept-spec : {M : Type 1} → statement M
 accept-spec =
     tie.close

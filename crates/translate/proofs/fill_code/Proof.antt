@@ -9,11 +9,6 @@ use borrow.Author.Needs.{needs}
 use Rattle.translate.proofs.fill_code.Statement.{statement}
 use Rattle.translate.proofs.fill_code.Tie as tie
 
--- src/lib.rt:66:9
--- src/lib.rt:67:5
--- src/lib.rt:62:1
--- src/lib.rt:62:1
-
 pub fill-code-spec : {M : Type 1} → statement M
 fill-code-spec = tie.close (tie.spec
     (λ c κs. search needs)

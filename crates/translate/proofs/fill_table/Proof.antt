@@ -8,13 +8,6 @@ use borrow.Author.Needs.{needs}
 use Rattle.translate.proofs.fill_table.Statement.{statement}
 use Rattle.translate.proofs.fill_table.Tie as tie
 
--- src/lib.rt:57:29
--- src/lib.rt:57:5
--- src/lib.rt:58:24
--- src/lib.rt:58:5
--- src/lib.rt:53:1
--- src/lib.rt:53:1
-
 pub fill-table-spec : {M : Type 1} → statement M
 fill-table-spec =
     tie.close

@@ -4,12 +4,6 @@ use borrow.Author.Needs.{needs}
 use Rattle.translate.proofs.refuse.Statement.{statement}
 use Rattle.translate.proofs.refuse.Tie as tie
 
--- src/lib.rt:39:5
--- src/lib.rt:40:5
--- src/lib.rt:36:1
--- src/lib.rt:36:1
--- src/lib.rt:36:1
-
 pub refuse-spec : {M : Type 1} → statement M
 refuse-spec =
     tie.close

@@ -8,18 +8,6 @@ use borrow.Author.Needs.{needs}
 use Rattle.translate.proofs.translate.Statement.{statement}
 use Rattle.translate.proofs.translate.Tie as tie
 
--- src/lib.rt:119:9
--- src/lib.rt:121:27
--- src/lib.rt:121:45
--- src/lib.rt:122:28
--- src/lib.rt:123:13
--- src/lib.rt:115:1
--- src/lib.rt:115:1
--- src/lib.rt:115:1
--- src/lib.rt:115:1
--- src/lib.rt:115:1
--- src/lib.rt:115:1
-
 pub translate-spec : {M : Type 1} → statement M
 translate-spec =
     tie.close
