@@ -1,4 +1,5 @@
 -- What the walk over a syntax table asks of it: each row names only rows before it, of the fitting sort. Definitions.
+use mathlib.Core.Path.{_≡_}
 use mathlib.Core.List.{List}
 use Prim.Native.Nat.{ℕ, _+_, _*_, _≤_, _<_}
 use lib.ListN.{length}
@@ -56,3 +57,7 @@ WellExpression = Well 3 7
 
 abbrev pub WellProcess : List ℕ → ℕ → Type 0
 WellProcess = Well 8 14
+
+-- one that is no sequence
+abbrev pub WellSingle : List ℕ → ℕ → Type 0
+WellSingle t r = WellProcess t r × (word t r 0 ≡ 12 → ⊥)

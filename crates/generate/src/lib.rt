@@ -5,7 +5,7 @@ ghost use lib.ListN.{length};
 ghost use Rattle.program.specs.Table.{process-at};
 ghost use Rattle.rules.specs.Code.{image-code};
 ghost use Rattle.emit.specs.Write.{Room, Wrote};
-ghost use Rattle.generate.specs.Well.{row-in, Well, WellExpression, WellProcess};
+ghost use Rattle.generate.specs.Well.{row-in, Well, WellExpression, WellProcess, WellSingle};
 ghost use Rattle.generate.specs.Walk.{expression-in, process-in};
 use thumb::Instr;
 
@@ -81,9 +81,25 @@ fn assign_element(table: &[u32], code: &mut [u8], r: usize, at: usize) -> usize
     emit::store_element(code, a3, v.a)
 }
 
-// The code of the process in row r.
+// The code of the process in row r. Lists are grouped to the right: a part at a time, then the last.
 fn process(table: &[u32], code: &mut [u8], r: usize, at: usize) -> usize
     requires { ⌜ WellProcess (now table) r × Room (now code) at (process-in (now table) r) ⌝ }
+    ensures { λ j. ⌜ Wrote (now (code .entry)) at (process-in (now (table .entry)) r) (now (code .exit)) j ⌝ }
+{
+    let mut row = r;
+    let mut to = at;
+    let mut w = read_row(table, r);
+    while w.kind == 12 {
+        to = process(table, code, w.a as usize, to);
+        row = w.b as usize;
+        w = read_row(table, row);
+    }
+    single(table, code, row, to)
+}
+
+// Row r is a process, no sequence.
+fn single(table: &[u32], code: &mut [u8], r: usize, at: usize) -> usize
+    requires { ⌜ WellSingle (now table) r × Room (now code) at (process-in (now table) r) ⌝ }
     ensures { λ j. ⌜ Wrote (now (code .entry)) at (process-in (now (table .entry)) r) (now (code .exit)) j ⌝ }
 {
     let w = read_row(table, r);
@@ -99,10 +115,6 @@ fn process(table: &[u32], code: &mut [u8], r: usize, at: usize) -> usize
     }
     if kind == 11 {
         return assign_element(table, code, r, at);
-    }
-    if kind == 12 {
-        let a1 = process(table, code, w.a as usize, at);
-        return process(table, code, w.b as usize, a1);
     }
     if kind == 13 {
         return conditional(table, code, r, at);

@@ -1,4 +1,4 @@
--- `generate::process`, `conditional` and `repeat` meet their contracts. Measure: 2r + 1 for a process in row r, 2r for an if or a while, since those are called with the row itself. `Walk` says what a row's code is, `Jumps` how an if and a while are written.
+-- `generate::process`, `single`, `conditional` and `repeat` meet their contracts. Measure: 3r + 2 for a process in row r, 3r + 1 for one that is no sequence, 3r for an if or a while, since those are called with the row itself. `Walk` says what a row's code is, `Onward` how a list is written, `Jumps` how an if and a while are.
 -- Assumes nothing.
 use mathlib.Core.Path.{_≡_}
 use Prim.Native.Nat.{_+_, _*_}
@@ -6,19 +6,23 @@ use native.Mathlib.Omega.{arith}
 use Rattle.rules.specs.Code.{choice-code, repeat-code}
 use Rattle.emit.specs.Write.{first, rest, then, kept, none}
 use Rattle.emit.specs.Jumps.{then-room, then-ahead, else-room, else-ahead, choice-wrote, body-room, body-ahead, back-room, repeat-wrote}
-use Rattle.generate.specs.Walk.{named, only, kind-is, kind-from, kind-to, skip-code, stop-code, sequence-names, sequence-code, conditional-names, conditional-code, loop-names, loop-code}
+use Rattle.generate.specs.Walk.{named, only, kind-is, kind-from, kind-to, skip-code, stop-code, conditional-names, conditional-code, loop-names, loop-code}
+use Rattle.generate.specs.Onward.{Onward, onward, last, left, right, left-asks, turn, only-loop}
 use Prim.Native.Nat.{ℕ, _<_}
 use borrow.Fn.Kinds.{In}
 use borrow.Fn.PlainCycle.{Measures, is, falls, and}
 use Rattle.generate.proofs.conditional.Reads as conditional
 use Rattle.generate.proofs.conditional.Kinds as conditional-kinds
-use Rattle.generate.proofs.+conditional+process+repeat.Lts-conditional as conditional-lts
+use Rattle.generate.proofs.+conditional+process+repeat+single.Lts-conditional as conditional-lts
 use Rattle.generate.proofs.process.Reads as process
 use Rattle.generate.proofs.process.Kinds as process-kinds
-use Rattle.generate.proofs.+conditional+process+repeat.Lts-process as process-lts
+use Rattle.generate.proofs.+conditional+process+repeat+single.Lts-process as process-lts
 use Rattle.generate.proofs.repeat.Reads as repeat
 use Rattle.generate.proofs.repeat.Kinds as repeat-kinds
-use Rattle.generate.proofs.+conditional+process+repeat.Lts-repeat as repeat-lts
+use Rattle.generate.proofs.+conditional+process+repeat+single.Lts-repeat as repeat-lts
+use Rattle.generate.proofs.single.Reads as single
+use Rattle.generate.proofs.single.Kinds as single-kinds
+use Rattle.generate.proofs.+conditional+process+repeat+single.Lts-single as single-lts
 use Rattle.emit.proofs.jump_back.Reads as jump-back-reads
 use Rattle.emit.proofs.jump_over.Reads as jump-over-reads
 use Rattle.emit.proofs.put.Reads as put-reads
@@ -27,17 +31,20 @@ use Rattle.generate.proofs.assign.Reads as assign-reads
 use Rattle.generate.proofs.assign_element.Reads as assign-element-reads
 use Rattle.generate.proofs.expression.Reads as expression-reads
 use Rattle.generate.proofs.read_row.Reads as read-row-reads
-use Rattle.generate.proofs.+conditional+process+repeat.{statement}
-use Rattle.generate.proofs.+conditional+process+repeat.Tie.{close}
+use Rattle.generate.proofs.+conditional+process+repeat+single.{statement}
+use Rattle.generate.proofs.+conditional+process+repeat+single.Tie.{close}
 
 abbrev μ-conditional : Measures 2 conditional-kinds.ps ℕ
-μ-conditional κs a = 2 * a .1 .1 .0
+μ-conditional κs a = 3 * a .1 .1 .0
 
 abbrev μ-process : Measures 2 process-kinds.ps ℕ
-μ-process κs a = 2 * a .1 .1 .0 + 1
+μ-process κs a = 3 * a .1 .1 .0 + 2
 
 abbrev μ-repeat : Measures 2 repeat-kinds.ps ℕ
-μ-repeat κs a = 2 * a .1 .1 .0
+μ-repeat κs a = 3 * a .1 .1 .0
+
+abbrev μ-single : Measures 2 single-kinds.ps ℕ
+μ-single κs a = 3 * a .1 .1 .0 + 1
 
 abbrev conditional-at : ℕ → In 2 conditional-kinds.ps
 conditional-at t =
@@ -59,25 +66,40 @@ repeat-at t = and 2 repeat-kinds.ps (is 2 repeat-kinds.ps μ-repeat t) repeat.Pr
 abbrev repeat-below : ℕ → In 2 repeat-kinds.ps
 repeat-below t = and 2 repeat-kinds.ps (falls 2 repeat-kinds.ps _<_ μ-repeat t) repeat.Pre
 
+abbrev single-at : ℕ → In 2 single-kinds.ps
+single-at t = and 2 single-kinds.ps (is 2 single-kinds.ps μ-single t) single.Pre
+
+abbrev single-below : ℕ → In 2 single-kinds.ps
+single-below t = and 2 single-kinds.ps (falls 2 single-kinds.ps _<_ μ-single t) single.Pre
+
 abbrev conditional-calls : ℕ → conditional-lts.Claims
 conditional-calls t = (read-row-reads.Asked, read-row-reads.Learnt, expression-reads.Asked, expression-reads.Learnt, take-condition-reads.Asked, take-condition-reads.Learnt, process-below t, process.Post, jump-over-reads.Asked, jump-over-reads.Learnt)
 
 abbrev process-calls : ℕ → process-lts.Claims
-process-calls t = (read-row-reads.Asked, read-row-reads.Learnt, put-reads.Asked, put-reads.Learnt, assign-reads.Asked, assign-reads.Learnt, assign-element-reads.Asked, assign-element-reads.Learnt, process-below t, process.Post, conditional-below t, conditional.Post, repeat-below t, repeat.Post)
+process-calls t = (read-row-reads.Asked, read-row-reads.Learnt, process-below t, process.Post, single-below t, single.Post)
 
 abbrev repeat-calls : ℕ → repeat-lts.Claims
 repeat-calls t = (read-row-reads.Asked, read-row-reads.Learnt, expression-reads.Asked, expression-reads.Learnt, take-condition-reads.Asked, take-condition-reads.Learnt, process-below t, process.Post, jump-over-reads.Asked, jump-over-reads.Learnt, jump-back-reads.Asked, jump-back-reads.Learnt)
 
--- past the other kinds only the loop is left
-last-kind : (t : ℕ) (c : process-lts.Else6 (process-calls t) (process-at t) process.Post) → c .before .before .before .before .before .before .read-row .result .kind ≡ 14
-last-kind t c =
-    let h = c .before .before .before .before .before .before .before .before .before .pre .1 .0 in
-    let e = c .before .before .before .before .before .before .read-row .ensures in
-    omega (arith, kind-from h e, kind-to h e)
+abbrev single-calls : ℕ → single-lts.Claims
+single-calls t = (read-row-reads.Asked, read-row-reads.Learnt, put-reads.Asked, put-reads.Learnt, assign-reads.Asked, assign-reads.Learnt, assign-element-reads.Asked, assign-element-reads.Learnt, conditional-below t, conditional.Post, repeat-below t, repeat.Post)
 
-pub +conditional+process+repeat-spec : {M : Type 1} → statement M
-+conditional+process+repeat-spec =
-    close μ-conditional μ-process μ-repeat (λ t. conditional-lts.spec (conditional-calls t)
+abbrev Inv-loop : process-lts.InvT-loop
+Inv-loop table code₀ r at row₀ to₀ w₀ code row to w = Onward table r code₀ at row w code to
+
+abbrev μ-loop : process-lts.MeasureT-loop
+μ-loop table code₀ r at row₀ to₀ w₀ code row to w = row
+
+-- past the other kinds only the loop is left
+last-kind : (t : ℕ) (c : single-lts.Else5 (single-calls t) (single-at t) single.Post) → c .before .before .before .before .before .read-row .result .kind ≡ 14
+last-kind t c =
+    let h = c .before .before .before .before .before .before .before .before .pre .1 .0 .0 in
+    let e = c .before .before .before .before .before .read-row .ensures in
+    only-loop (kind-from h e) (kind-to h e) (c .before .before .before .before .if1 .left) (c .before .before .before .if2 .left) (c .before .before .if3 .left) (c .before .if4 .left) (λ q. c .before .before .before .before .before .before .before .before .pre .1 .0 .1 (kind-is h e q)) (c .if5 .left)
+
+pub +conditional+process+repeat+single-spec : {M : Type 1} → statement M
++conditional+process+repeat+single-spec =
+    close μ-conditional μ-process μ-repeat μ-single (λ t. conditional-lts.spec (conditional-calls t)
     (conditional-at t)
     conditional.Post
     (λ c κs. c .before .before .pre .1 .0 .inside)
@@ -98,30 +120,20 @@ pub +conditional+process+repeat-spec : {M : Type 1} → statement M
     (λ t. process-lts.spec (process-calls t)
     (process-at t)
     process.Post
+    Inv-loop
+    μ-loop
     (λ c κs. c .before .before .pre .1 .0 .inside)
-    (λ c. rw (skip-code (c .before .before .before .before .pre .1 .0) (c .before .read-row .ensures) (c .if1 .taken)) none)
-    (λ c κs. rw (stop-code (c .before .before .before .before .before .before .pre .1 .0) (c .before .before .before .read-row .ensures) (c .before .if2 .taken)) at (c .before .before .before .before .before .before .pre .1 .1))
-    (λ c. kept (c .before .before .put .ensures))
-    (λ c. rw (stop-code (c .before .before .before .before .before .before .before .before .before .pre .1 .0) (c .before .before .before .before .before .before .read-row .ensures) (c .before .before .before .before .if2 .taken)) (c .before .before .put .ensures))
-    (λ c κs. (only (c .before .before .before .before .before .before .before .pre .1 .0) (kind-is (c .before .before .before .before .before .before .before .pre .1 .0) (c .before .before .before .before .read-row .ensures) (c .before .if3 .taken)), (c .before .before .before .before .before .before .before .pre .1 .1)))
-    (λ c. kept (c .before .before .assign .ensures))
-    (λ c. c .before .before .assign .ensures)
-    (λ c κs. (only (c .before .before .before .before .before .before .before .before .pre .1 .0) (kind-is (c .before .before .before .before .before .before .before .before .pre .1 .0) (c .before .before .before .before .before .read-row .ensures) (c .before .if4 .taken)), (c .before .before .before .before .before .before .before .before .pre .1 .1)))
-    (λ c. kept (c .before .before .assign-element .ensures))
-    (λ c. c .before .before .assign-element .ensures)
+    (λ c. onward (c .read-row .ensures) (c .before .before .before .pre .1 .0) (c .before .before .before .pre .1 .1))
     (λ c. omega arith)
-    (λ c κs. let n = sequence-names (c .before .before .before .before .before .before .before .before .before .before .pre .1 .0) (c .before .before .before .before .before .before .before .read-row .ensures) (c .before .before .if5 .taken) .0 in (omega (arith, n .earlier, c .before .before .before .before .before .before .before .before .before .before .pre .0), (named (c .before .before .before .before .before .before .before .before .before .before .pre .1 .0) n, first _ (rw (sequence-code (c .before .before .before .before .before .before .before .before .before .before .pre .1 .0) (c .before .before .before .before .before .before .before .read-row .ensures) (c .before .before .if5 .taken)) at (c .before .before .before .before .before .before .before .before .before .before .pre .1 .1)))))
+    (λ c κs. (omega (arith, left (c .before .before .before .before .loop .inv) (c .before .before .if1 .taken) .earlier, (c .before .before .before .before .loop .inv) .least, c .before .before .before .before .before .before .before .before .pre .0), left-asks (c .before .before .before .before .loop .inv) (c .before .before .if1 .taken)))
     (λ c. omega arith)
-    (λ c κs. let n = sequence-names (c .before .before .before .before .before .before .before .before .before .before .before .before .before .before .before .pre .1 .0) (c .before .before .before .before .before .before .before .before .before .before .before .before .read-row .ensures) (c .before .before .before .before .before .before .before .if5 .taken) .1 in (omega (arith, n .earlier, c .before .before .before .before .before .before .before .before .before .before .before .before .before .before .before .pre .0), (named (c .before .before .before .before .before .before .before .before .before .before .before .before .before .before .before .pre .1 .0) n, rest (c .before .before .before .before .process .ensures) (rw (sequence-code (c .before .before .before .before .before .before .before .before .before .before .before .before .before .before .before .pre .1 .0) (c .before .before .before .before .before .before .before .before .before .before .before .before .read-row .ensures) (c .before .before .before .before .before .before .before .if5 .taken)) at (c .before .before .before .before .before .before .before .before .before .before .before .before .before .before .before .pre .1 .1)))))
-    (λ c. kept (then (c .before .before .before .before .before .before .before .process .ensures) (c .before .before .process2 .ensures)))
-    (λ c. rw (sequence-code (c .before .before .before .before .before .before .before .before .before .before .before .before .before .before .before .before .before .before .pre .1 .0) (c .before .before .before .before .before .before .before .before .before .before .before .before .before .before .before .read-row .ensures) (c .before .before .before .before .before .before .before .before .before .before .if5 .taken)) (then (c .before .before .before .before .before .before .before .process .ensures) (c .before .before .process2 .ensures)))
-    (λ c κs. (omega (arith, c .before .before .before .before .before .before .before .before .before .before .pre .0), (only (c .before .before .before .before .before .before .before .before .before .before .pre .1 .0) (kind-is (c .before .before .before .before .before .before .before .before .before .before .pre .1 .0) (c .before .before .before .before .before .before .before .read-row .ensures) (c .before .if6 .taken)), (c .before .before .before .before .before .before .before .before .before .before .pre .1 .1))))
-    (λ c. kept (c .before .before .conditional .ensures))
-    (λ c. c .before .before .conditional .ensures)
-    (λ c κs. (omega (arith, c .before .before .before .before .before .before .before .before .before .before .pre .0), (only (c .before .before .before .before .before .before .before .before .before .before .pre .1 .0) (kind-is (c .before .before .before .before .before .before .before .before .before .before .pre .1 .0) (c .before .before .before .before .before .before .before .read-row .ensures) (last-kind t (c .before))), (c .before .before .before .before .before .before .before .before .before .before .pre .1 .1))))
-    (λ c. kept (c .before .before .repeat .ensures))
-    (λ c. c .before .before .repeat .ensures))
-    λ t. repeat-lts.spec (repeat-calls t)
+    (λ c κs. named ((c .before .before .before .before .before .before .before .before .loop .inv) .well) (right (c .before .before .before .before .before .before .before .before .loop .inv) (c .before .before .before .before .before .before .if1 .taken)) .inside)
+    (λ c. right (c .before .before .before .before .before .before .before .before .before .loop .inv) (c .before .before .before .before .before .before .before .if1 .taken) .earlier)
+    (λ c. turn (c .before .before .before .before .before .before .before .before .before .loop .inv) (c .before .before .before .before .before .before .before .if1 .taken) (c .read-row2 .ensures) (c .before .before .before .before .process .ensures))
+    (λ c κs. (omega (arith, (c .before .before .before .loop .inv) .least, c .before .before .before .before .before .before .before .pre .0), (last (c .before .before .before .loop .inv) (c .before .if1 .left), (c .before .before .before .loop .inv) .room)))
+    (λ c. kept ((c .before .before .before .before .before .before .loop .inv) .ends _ _ (c .before .before .single .ensures)))
+    (λ c. (c .before .before .before .before .before .before .loop .inv) .ends _ _ (c .before .before .single .ensures)))
+    (λ t. repeat-lts.spec (repeat-calls t)
     (repeat-at t)
     repeat.Post
     (λ c κs. c .before .before .pre .1 .0 .inside)
@@ -135,4 +147,24 @@ pub +conditional+process+repeat-spec : {M : Type 1} → statement M
     (λ c κs. body-ahead _ _ (rw (loop-code (c .before .before .before .before .before .before .before .before .before .before .before .before .before .before .before .before .before .before .pre .1 .0) (c .before .before .before .before .before .before .before .before .before .before .before .before .before .before .before .read-row .ensures)) at (c .before .before .before .before .before .before .before .before .before .before .before .before .before .before .before .before .before .before .pre .1 .1)) (c .before .before .before .before .before .before .before .before .before .before .before .before .expression .ensures) (c .before .before .before .before .before .before .before .before .take-condition .ensures) (c .before .before .before .process .ensures))
     (λ c κs. back-room _ _ (rw (loop-code (c .before .before .before .before .before .before .before .before .before .before .before .before .before .before .before .before .before .before .before .before .before .before .pre .1 .0) (c .before .before .before .before .before .before .before .before .before .before .before .before .before .before .before .before .before .before .before .read-row .ensures)) at (c .before .before .before .before .before .before .before .before .before .before .before .before .before .before .before .before .before .before .before .before .before .before .pre .1 .1)) (c .before .before .before .before .before .before .before .before .before .before .before .before .before .before .before .before .expression .ensures) (c .before .before .before .before .before .before .before .before .before .before .before .before .take-condition .ensures) (c .before .before .before .before .before .before .before .process .ensures) (c .before .before .before .jump-over .ensures))
     (λ c. kept (repeat-wrote _ _ (rw (loop-code (c .before .before .before .before .before .before .before .before .before .before .before .before .before .before .before .before .before .before .before .before .before .before .before .before .before .pre .1 .0) (c .before .before .before .before .before .before .before .before .before .before .before .before .before .before .before .before .before .before .before .before .before .before .read-row .ensures)) at (c .before .before .before .before .before .before .before .before .before .before .before .before .before .before .before .before .before .before .before .before .before .before .before .before .before .pre .1 .1)) (c .before .before .before .before .before .before .before .before .before .before .before .before .before .before .before .before .before .before .before .expression .ensures) (c .before .before .before .before .before .before .before .before .before .before .before .before .before .before .before .take-condition .ensures) (c .before .before .before .before .before .before .before .before .before .before .process .ensures) (c .before .before .before .before .before .before .jump-over .ensures) (c .before .before .jump-back .ensures)))
-    (λ c. rw (loop-code (c .before .before .before .before .before .before .before .before .before .before .before .before .before .before .before .before .before .before .before .before .before .before .before .before .before .pre .1 .0) (c .before .before .before .before .before .before .before .before .before .before .before .before .before .before .before .before .before .before .before .before .before .before .read-row .ensures)) (repeat-wrote _ _ (rw (loop-code (c .before .before .before .before .before .before .before .before .before .before .before .before .before .before .before .before .before .before .before .before .before .before .before .before .before .pre .1 .0) (c .before .before .before .before .before .before .before .before .before .before .before .before .before .before .before .before .before .before .before .before .before .before .read-row .ensures)) at (c .before .before .before .before .before .before .before .before .before .before .before .before .before .before .before .before .before .before .before .before .before .before .before .before .before .pre .1 .1)) (c .before .before .before .before .before .before .before .before .before .before .before .before .before .before .before .before .before .before .before .expression .ensures) (c .before .before .before .before .before .before .before .before .before .before .before .before .before .before .before .take-condition .ensures) (c .before .before .before .before .before .before .before .before .before .before .process .ensures) (c .before .before .before .before .before .before .jump-over .ensures) (c .before .before .jump-back .ensures)))
+    (λ c. rw (loop-code (c .before .before .before .before .before .before .before .before .before .before .before .before .before .before .before .before .before .before .before .before .before .before .before .before .before .pre .1 .0) (c .before .before .before .before .before .before .before .before .before .before .before .before .before .before .before .before .before .before .before .before .before .before .read-row .ensures)) (repeat-wrote _ _ (rw (loop-code (c .before .before .before .before .before .before .before .before .before .before .before .before .before .before .before .before .before .before .before .before .before .before .before .before .before .pre .1 .0) (c .before .before .before .before .before .before .before .before .before .before .before .before .before .before .before .before .before .before .before .before .before .before .read-row .ensures)) at (c .before .before .before .before .before .before .before .before .before .before .before .before .before .before .before .before .before .before .before .before .before .before .before .before .before .pre .1 .1)) (c .before .before .before .before .before .before .before .before .before .before .before .before .before .before .before .before .before .before .before .expression .ensures) (c .before .before .before .before .before .before .before .before .before .before .before .before .before .before .before .take-condition .ensures) (c .before .before .before .before .before .before .before .before .before .before .process .ensures) (c .before .before .before .before .before .before .jump-over .ensures) (c .before .before .jump-back .ensures))))
+    λ t. single-lts.spec (single-calls t)
+    (single-at t)
+    single.Post
+    (λ c κs. c .before .before .pre .1 .0 .0 .inside)
+    (λ c. rw (skip-code (c .before .before .before .before .pre .1 .0 .0) (c .before .read-row .ensures) (c .if1 .taken)) none)
+    (λ c κs. rw (stop-code (c .before .before .before .before .before .before .pre .1 .0 .0) (c .before .before .before .read-row .ensures) (c .before .if2 .taken)) at (c .before .before .before .before .before .before .pre .1 .1))
+    (λ c. kept (c .before .before .put .ensures))
+    (λ c. rw (stop-code (c .before .before .before .before .before .before .before .before .before .pre .1 .0 .0) (c .before .before .before .before .before .before .read-row .ensures) (c .before .before .before .before .if2 .taken)) (c .before .before .put .ensures))
+    (λ c κs. (only (c .before .before .before .before .before .before .before .pre .1 .0 .0) (kind-is (c .before .before .before .before .before .before .before .pre .1 .0 .0) (c .before .before .before .before .read-row .ensures) (c .before .if3 .taken)), (c .before .before .before .before .before .before .before .pre .1 .1)))
+    (λ c. kept (c .before .before .assign .ensures))
+    (λ c. c .before .before .assign .ensures)
+    (λ c κs. (only (c .before .before .before .before .before .before .before .before .pre .1 .0 .0) (kind-is (c .before .before .before .before .before .before .before .before .pre .1 .0 .0) (c .before .before .before .before .before .read-row .ensures) (c .before .if4 .taken)), (c .before .before .before .before .before .before .before .before .pre .1 .1)))
+    (λ c. kept (c .before .before .assign-element .ensures))
+    (λ c. c .before .before .assign-element .ensures)
+    (λ c κs. (omega (arith, c .before .before .before .before .before .before .before .before .before .pre .0), (only (c .before .before .before .before .before .before .before .before .before .pre .1 .0 .0) (kind-is (c .before .before .before .before .before .before .before .before .before .pre .1 .0 .0) (c .before .before .before .before .before .before .read-row .ensures) (c .before .if5 .taken)), (c .before .before .before .before .before .before .before .before .before .pre .1 .1))))
+    (λ c. kept (c .before .before .conditional .ensures))
+    (λ c. c .before .before .conditional .ensures)
+    (λ c κs. (omega (arith, c .before .before .before .before .before .before .before .before .before .pre .0), (only (c .before .before .before .before .before .before .before .before .before .pre .1 .0 .0) (kind-is (c .before .before .before .before .before .before .before .before .before .pre .1 .0 .0) (c .before .before .before .before .before .before .read-row .ensures) (last-kind t (c .before))), (c .before .before .before .before .before .before .before .before .before .pre .1 .1))))
+    (λ c. kept (c .before .before .repeat .ensures))
+    (λ c. c .before .before .repeat .ensures)
