@@ -13,7 +13,7 @@ use borrow.Author.Tests.{lt-ltb, eq-eqb, ne-eqb, eqb-true, eqb-false, leb-true, 
 use Rattle.word.specs.Choice.{pick, by-test, both, either}
 use Rattle.token.specs.Kinds as kinds
 use Rattle.token.specs.Characters.{one-of, character, within, letter, digit, digit-value, name-character, literal-character, in-class, span, numeral, separator}
-use Rattle.token.specs.Words.{word, same}
+use Rattle.token.specs.Words.{word, middle-word, late-word, same}
 use Rattle.token.specs.Lexemes.{at, spelled, named, number, escape-value, closed, hexadecimal-escape, escape, byte-literal, comment, single, double, symbol, lexeme}
 use Rattle.token.specs.Runs.{span-length}
 use Rattle.token.specs.declared.Class.the-variants.{Name, Comment, Digit}
@@ -61,7 +61,7 @@ matched-pick n true x y p q = p
 matched-pick n false x y p q = q
 
 word-matched : (w : List ℕ) → matched (length w) (word w .kind) (word w .value) ≡ true
-unfolding word
+unfolding word middle-word late-word
 word-matched w = let e = eq-eqb (length w) (length w) refl in search (matched-pick, e) depth 30
 
 -- symbols

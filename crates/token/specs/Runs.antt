@@ -13,7 +13,7 @@ use lib.Seq.{drop-cons}
 use borrow.Author.Tests.{eq-eqb, ne-eqb, eqb-true, ltb-true, ltb-false}
 use Rattle.word.specs.Choice.{pick, by-test, both}
 use Rattle.token.specs.Characters.{one-of, in-class, digit, digit-value, span, numeral}
-use Rattle.token.specs.Words.{same, word}
+use Rattle.token.specs.Words.{same}
 use Rattle.token.specs.declared.Word.{Word}
 use Rattle.token.specs.declared.Class.{Class}
 
@@ -124,6 +124,6 @@ unfolding span
 span-length c [] = omega arith
 span-length c (b ∷ bs) = let h = span-length c bs in by-test (λ (t : Bool). pick t (suc (span c bs)) 0 ≤ suc (length bs)) (in-class c b) (λ t. omega arith) (λ t. omega arith)
 
--- a name that was found the same as a reserved word is that word
-pub told : (w t : List ℕ) (b : Bool) (r : Word) → b ≡ same w t → b ≡ true → r ≡ word t → r ≡ word w
-told w t b r e h q = q ∙ ap word (sym (same-equal w t (sym e ∙ h)))
+-- a name that was found the same as a reserved word stands for what that word does
+pub told : (f : List ℕ → Word) (w t : List ℕ) (b : Bool) (r : Word) → b ≡ same w t → b ≡ true → r ≡ f t → r ≡ f w
+told f w t b r e h q = q ∙ ap f (sym (same-equal w t (sym e ∙ h)))

@@ -206,6 +206,65 @@ fn is(kind: u8, value: u32) -> Word
     Word { kind, value }
 }
 
+// The reserved words in three parts, since the proof's cost grows faster than the number of tests: `then` to `xor`, or a name.
+fn late_word(w: &[u8]) -> Word
+    requires { ⌜ length (now w) ≤ 32 ⌝ }
+    ensures { λ r. ⌜ r ≡ words.late-word (now (w .entry)) ⌝ }
+{
+    if equal(w, b"then") {
+        return is(kind::THEN, 0);
+    }
+    if equal(w, b"true") {
+        return is(kind::NUMBER, 0xffff_ffff);
+    }
+    if equal(w, b"val") {
+        return is(kind::VAL, 0);
+    }
+    if equal(w, b"valof") {
+        return is(kind::VALOF, 0);
+    }
+    if equal(w, b"var") {
+        return is(kind::VAR, 0);
+    }
+    if equal(w, b"while") {
+        return is(kind::WHILE, 0);
+    }
+    if equal(w, b"xor") {
+        return is(kind::XOR, 0);
+    }
+    is(kind::NAME, w.len() as u32)
+}
+
+// `is` to `stop`.
+fn middle_word(w: &[u8]) -> Word
+    requires { ⌜ length (now w) ≤ 32 ⌝ }
+    ensures { λ r. ⌜ r ≡ words.middle-word (now (w .entry)) ⌝ }
+{
+    if equal(w, b"is") {
+        return is(kind::IS, 0);
+    }
+    if equal(w, b"not") {
+        return is(kind::NOT, 0);
+    }
+    if equal(w, b"or") {
+        return is(kind::OR, 0);
+    }
+    if equal(w, b"proc") {
+        return is(kind::PROC, 0);
+    }
+    if equal(w, b"return") {
+        return is(kind::RETURN, 0);
+    }
+    if equal(w, b"skip") {
+        return is(kind::SKIP, 0);
+    }
+    if equal(w, b"stop") {
+        return is(kind::STOP, 0);
+    }
+    late_word(w)
+}
+
+// `and` to `if`.
 fn word_of(w: &[u8]) -> Word
     requires { ⌜ length (now w) ≤ 32 ⌝ }
     ensures { λ r. ⌜ r ≡ words.word (now (w .entry)) ⌝ }
@@ -231,49 +290,7 @@ fn word_of(w: &[u8]) -> Word
     if equal(w, b"if") {
         return is(kind::IF, 0);
     }
-    if equal(w, b"is") {
-        return is(kind::IS, 0);
-    }
-    if equal(w, b"not") {
-        return is(kind::NOT, 0);
-    }
-    if equal(w, b"or") {
-        return is(kind::OR, 0);
-    }
-    if equal(w, b"proc") {
-        return is(kind::PROC, 0);
-    }
-    if equal(w, b"return") {
-        return is(kind::RETURN, 0);
-    }
-    if equal(w, b"skip") {
-        return is(kind::SKIP, 0);
-    }
-    if equal(w, b"stop") {
-        return is(kind::STOP, 0);
-    }
-    if equal(w, b"then") {
-        return is(kind::THEN, 0);
-    }
-    if equal(w, b"true") {
-        return is(kind::NUMBER, 0xffff_ffff);
-    }
-    if equal(w, b"val") {
-        return is(kind::VAL, 0);
-    }
-    if equal(w, b"valof") {
-        return is(kind::VALOF, 0);
-    }
-    if equal(w, b"var") {
-        return is(kind::VAR, 0);
-    }
-    if equal(w, b"while") {
-        return is(kind::WHILE, 0);
-    }
-    if equal(w, b"xor") {
-        return is(kind::XOR, 0);
-    }
-    is(kind::NAME, w.len() as u32)
+    middle_word(w)
 }
 
 fn named(s: &[u8], i: usize) -> Lexeme

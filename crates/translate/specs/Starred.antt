@@ -4,7 +4,7 @@ use mathlib.Core.Path.{_≡_, refl}
 use mathlib.Core.List.{List, [], _∷_, map}
 use Prim.Native.Nat.{ℕ}
 use Rattle.token.specs.Characters.{one-of, digit-value, name-character, character, span, numeral}
-use Rattle.token.specs.Words.{same, word}
+use Rattle.token.specs.Words.{same, word, middle-word, late-word}
 use Rattle.token.specs.Lexemes as lexemes
 use Rattle.token.specs.Lexemes.{double, single, symbol, lexeme}
 use Rattle.token.specs.Tokens.{scan, outcome}
@@ -41,5 +41,5 @@ answers =
     ∷ []
 
 pub starred : map (λ (s : List ℕ). seen (front s 32 640)) sources ≡ answers
-unfolding front outcome scan lexeme lexemes.named lexemes.number double single symbol one-of digit-value name-character span numeral same word reads run symbols entry-at unread-place named least lookup data-words table-of rows count rows-process count-process declared-rows
+unfolding front outcome scan lexeme lexemes.named lexemes.number double single symbol one-of digit-value name-character span numeral same word middle-word late-word reads run symbols entry-at unread-place named least lookup data-words table-of rows count rows-process count-process declared-rows
 starred = refl
