@@ -10,7 +10,7 @@ use Rattle.rules.specs.Blocks.{take-condition, jump-over, jump-back}
 use Rattle.rules.specs.Code.{choice-code, repeat-code}
 use Rattle.rules.specs.Laws.{size-append}
 use Rattle.rules.specs.Sizes.{condition-size, jump-size}
-use Rattle.emit.specs.Write.{Room, Wrote, rest, then, kept, none, fill-gap}
+use Rattle.instructions.specs.Write.{Room, Wrote, rest, then, kept, none, fill-gap}
 
 -- a jump's four bytes at i stand in the buffer l and in the machine's code, and it reaches the place `to`
 pub record Ahead (l : List ℕ) (i to : ℕ) : Type 0 where

@@ -1,5 +1,2 @@
--- Writing instructions to a buffer: what the emitting functions promise, and its laws.
-pub mod Write
-pub mod Single
-pub mod Operators
+-- Jumps over parts whose end was not known when they were begun.
 pub mod Jumps

@@ -18,7 +18,7 @@ use Rattle.program.specs.Sound.{Declares, SoundExpression, SoundProcess, Sound,
 use Rattle.program.specs.ReadBack.{Holds, front, behind, length-rows, some-rows, length-rows-process, some-rows-process, length-declared, declared-word, read-back}
 use Rattle.rules.specs.Bytes.{bytes, size}
 use Rattle.rules.specs.Code.{image-code, image}
-use Rattle.emit.specs.Write.{Room, Wrote}
+use Rattle.instructions.specs.Write.{Room, Wrote}
 use Rattle.generate.specs.Well.{Declared, Earlier, Names, Well, WellProcess}
 
 -- ── rows n to m name what they should, and the kind of row m is from `low` to `high` ──

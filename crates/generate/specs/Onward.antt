@@ -3,7 +3,7 @@ use mathlib.Core.Path.{_≡_, ap, _∙_}
 use mathlib.Core.List.{List, _++_}
 use Prim.Native.Nat.{ℕ, suc, _≤_}
 use native.Mathlib.Omega.{arith}
-use Rattle.emit.specs.Write.{Room, Wrote, first, rest, then}
+use Rattle.instructions.specs.Write.{Room, Wrote, first, rest, then}
 use Rattle.generate.specs.declared.Row.{Row}
 use Rattle.generate.specs.Well.{row-in, Earlier, Well, WellProcess, WellSingle}
 use Rattle.generate.specs.Walk.{process-in, named, sequence-names, sequence-code}

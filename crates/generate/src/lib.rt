@@ -4,7 +4,7 @@ ghost use Prim.Native.Nat.{_+_, _-_, _*_, _<_, _≤_};
 ghost use lib.ListN.{length};
 ghost use Rattle.program.specs.Table.{process-at};
 ghost use Rattle.rules.specs.Code.{image-code};
-ghost use Rattle.emit.specs.Write.{Room, Wrote};
+ghost use Rattle.instructions.specs.Write.{Room, Wrote};
 ghost use Rattle.generate.specs.Well.{row-in, Well, WellExpression, WellProcess, WellSingle};
 ghost use Rattle.generate.specs.Walk.{expression-in, process-in};
 use thumb::Instr;
@@ -50,11 +50,11 @@ fn expression(table: &[u32], code: &mut [u8], r: usize, at: usize) -> usize
     }
     if kind == 6 {
         let a1 = expression(table, code, w.b as usize, at);
-        return emit::monadic(code, a1, w.a);
+        return operators::monadic(code, a1, w.a);
     }
     let a1 = expression(table, code, w.b as usize, at);
     let a2 = expression(table, code, w.c as usize, a1);
-    emit::diadic(code, a2, w.a)
+    operators::diadic(code, a2, w.a)
 }
 
 // Row r assigns to a variable.
@@ -108,7 +108,7 @@ fn single(table: &[u32], code: &mut [u8], r: usize, at: usize) -> usize
         return at;
     }
     if kind == 9 {
-        return emit::put(code, at, Instr::Svc(1));
+        return instructions::put(code, at, Instr::Svc(1));
     }
     if kind == 10 {
         return assign(table, code, r, at);
@@ -156,5 +156,5 @@ pub fn image(table: &[u32], rows: usize, code: &mut [u8]) -> usize
     ensures { λ j. ⌜ Wrote (now (code .entry)) 0 (image-code (process-at (now (table .entry)) (rows - 1))) (now (code .exit)) j ⌝ }
 {
     let end = process(table, code, rows - 1, 0);
-    emit::put(code, end, Instr::Svc(0))
+    instructions::put(code, end, Instr::Svc(0))
 }

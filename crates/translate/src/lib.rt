@@ -15,7 +15,7 @@ ghost use Rattle.program.specs.ReadBack.{Holds};
 ghost use Rattle.program.specs.Sound.{Sound};
 ghost use Rattle.program.specs.Table.{«process-at»};
 ghost use Rattle.rules.specs.Code as rules;
-ghost use Rattle.emit.specs.Write.{Room};
+ghost use Rattle.instructions.specs.Write.{Room};
 ghost use Rattle.generate.specs.Well.{WellProcess};
 ghost use Rattle.front.specs.Front as front;
 ghost use Rattle.translate.specs.Translate.{filled, left, translated, translation};

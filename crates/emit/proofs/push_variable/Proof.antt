@@ -1,6 +1,6 @@
 -- `emit::push_variable` meets its contract: there is room for each part (`first`, `rest`), and together they wrote the whole (`then`).
 -- Assumes nothing.
-use Rattle.emit.specs.Write.{first, rest, then}
+use Rattle.instructions.specs.Write.{first, rest, then}
 use Rattle.rules.specs.Blocks.{push-variable}
 use borrow.Author.Needs.{needs}
 use Rattle.emit.proofs.push_variable.Statement.{statement}

@@ -1,6 +1,6 @@
 -- `emit::store_element` meets its contract: there is room for each part (`first`, `rest`), and together they wrote the whole (`then`).
 -- Assumes nothing.
-use Rattle.emit.specs.Write.{first, rest, then}
+use Rattle.instructions.specs.Write.{first, rest, then}
 use Rattle.rules.specs.Blocks.{store-element}
 use borrow.Author.Needs.{needs}
 use Rattle.emit.proofs.store_element.Statement.{statement}

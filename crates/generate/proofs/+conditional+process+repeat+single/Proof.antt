@@ -4,7 +4,7 @@ use mathlib.Core.Path.{_≡_}
 use Prim.Native.Nat.{_+_, _*_}
 use native.Mathlib.Omega.{arith}
 use Rattle.rules.specs.Code.{choice-code, repeat-code}
-use Rattle.emit.specs.Write.{first, rest, then, kept, none}
+use Rattle.instructions.specs.Write.{first, rest, then, kept, none}
 use Rattle.emit.specs.Jumps.{then-room, then-ahead, else-room, else-ahead, choice-wrote, body-room, body-ahead, back-room, repeat-wrote}
 use Rattle.generate.specs.Walk.{named, only, kind-is, kind-from, kind-to, skip-code, stop-code, conditional-names, conditional-code, loop-names, loop-code}
 use Rattle.generate.specs.Onward.{Onward, onward, last, left, right, left-asks, turn, only-loop}
@@ -25,7 +25,7 @@ use Rattle.generate.proofs.single.Kinds as single-kinds
 use Rattle.generate.proofs.+conditional+process+repeat+single.Lts-single as single-lts
 use Rattle.emit.proofs.jump_back.Reads as jump-back-reads
 use Rattle.emit.proofs.jump_over.Reads as jump-over-reads
-use Rattle.emit.proofs.put.Reads as put-reads
+use Rattle.instructions.proofs.put.Reads as put-reads
 use Rattle.emit.proofs.take_condition.Reads as take-condition-reads
 use Rattle.generate.proofs.assign.Reads as assign-reads
 use Rattle.generate.proofs.assign_element.Reads as assign-element-reads

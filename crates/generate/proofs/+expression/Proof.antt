@@ -2,7 +2,7 @@
 -- Assumes nothing.
 use mathlib.Core.Path.{_≡_}
 use native.Mathlib.Omega.{arith}
-use Rattle.emit.specs.Write.{first, rest, then, kept}
+use Rattle.instructions.specs.Write.{first, rest, then, kept}
 use Rattle.generate.specs.Walk.{named, declared, offset-small, kind-from, kind-to, constant-code, variable-names, variable-code, element-names, element-code, monadic-names, monadic-code, diadic-names, diadic-code}
 use Prim.Native.Nat.{ℕ, _<_}
 use borrow.Fn.Kinds.{In}
@@ -11,9 +11,9 @@ use Rattle.generate.proofs.expression.Reads as expression
 use Rattle.generate.proofs.expression.Kinds as expression-kinds
 use Rattle.generate.proofs.+expression.Lts-expression as expression-lts
 use Rattle.emit.proofs.check_subscript.Reads as check-subscript-reads
-use Rattle.emit.proofs.diadic.Reads as diadic-reads
+use Rattle.operators.proofs.diadic.Reads as diadic-reads
 use Rattle.emit.proofs.load_element.Reads as load-element-reads
-use Rattle.emit.proofs.monadic.Reads as monadic-reads
+use Rattle.operators.proofs.monadic.Reads as monadic-reads
 use Rattle.emit.proofs.push_constant.Reads as push-constant-reads
 use Rattle.emit.proofs.push_variable.Reads as push-variable-reads
 use Rattle.generate.proofs.read_row.Reads as read-row-reads

@@ -1,6 +1,6 @@
 -- `generate::assign` meets its contract: the row's code is the value's and the assignment's, written one after another.
 -- Assumes nothing.
-use Rattle.emit.specs.Write.{first, rest, then}
+use Rattle.instructions.specs.Write.{first, rest, then}
 use Rattle.generate.specs.Walk.{named, declared, offset-small, assign-names, assign-code}
 use borrow.Author.Needs.{needs}
 use Rattle.generate.proofs.assign.Statement.{statement}

@@ -1,6 +1,6 @@
 -- `generate::assign_element` meets its contract: subscript, check, value, store, written one after another.
 -- Assumes nothing.
-use Rattle.emit.specs.Write.{first, rest, then}
+use Rattle.instructions.specs.Write.{first, rest, then}
 use Rattle.generate.specs.Walk.{named, declared, offset-small, assign-element-names, assign-element-code}
 use borrow.Author.Needs.{needs}
 use Rattle.generate.proofs.assign_element.Statement.{statement}

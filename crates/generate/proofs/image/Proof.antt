@@ -1,7 +1,7 @@
 -- `generate::image` meets its contract: the process, then SVC 0.
 -- Assumes nothing.
 use Rattle.rules.specs.Code.{image-code}
-use Rattle.emit.specs.Write.{first, rest, then}
+use Rattle.instructions.specs.Write.{first, rest, then}
 use borrow.Author.Needs.{needs}
 use Rattle.generate.proofs.image.Statement.{statement}
 use Rattle.generate.proofs.image.Tie as tie

@@ -3,7 +3,7 @@ use mathlib.Core.Path.{subst, _∙_}
 use Prim.Native.Nat.{ℕ, _-_}
 use Rattle.program.specs.Table.{process-at}
 use Rattle.rules.specs.Code.{image-code}
-use Rattle.emit.specs.Write.{Wrote}
+use Rattle.instructions.specs.Write.{Wrote}
 use Rattle.generate.specs.Accepted.{image-filled, image-written}
 use borrow.Author.Needs.{needs}
 use Rattle.translate.proofs.fill_code.Statement.{statement}

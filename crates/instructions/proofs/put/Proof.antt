@@ -1,13 +1,13 @@
--- `emit::put` meets its contract: by the encoding's count nothing, one halfword or two were stored (`Single`).
+-- `instructions::put` meets its contract: by the encoding's count nothing, one halfword or two were stored (`Single`).
 -- Assumes nothing.
 use native.Mathlib.Omega.{arith}
 use mathlib.Core.Path.{refl}
 use native.Mathlib.Numerals.{towards-suc}
 use lib.ListN.{length-set}
-use Rattle.emit.specs.Single.{room-some, room-two, wrote-none, wrote-one, wrote-two}
+use Rattle.instructions.specs.Single.{room-some, room-two, wrote-none, wrote-one, wrote-two}
 use borrow.Author.Needs.{needs}
-use Rattle.emit.proofs.put.Statement.{statement}
-use Rattle.emit.proofs.put.Tie as tie
+use Rattle.instructions.proofs.put.Statement.{statement}
+use Rattle.instructions.proofs.put.Tie as tie
 
 pub put-spec : {M : Type 1} → statement M
 put-spec =

@@ -1,10 +1,10 @@
--- `emit::diadic_instructions` meets its contract, arm by arm: the operator's number says which instructions the rule has.
+-- `operators::diadic_instructions` meets its contract, arm by arm: the operator's number says which instructions the rule has.
 -- Assumes nothing.
-use Rattle.emit.specs.Write.{first, rest, then}
-use Rattle.emit.specs.Operators.{last-operator}
+use Rattle.instructions.specs.Write.{first, rest, then}
+use Rattle.operators.specs.Operators.{last-operator}
 use borrow.Author.Needs.{needs}
-use Rattle.emit.proofs.diadic_instructions.Statement.{statement}
-use Rattle.emit.proofs.diadic_instructions.Tie as tie
+use Rattle.operators.proofs.diadic_instructions.Statement.{statement}
+use Rattle.operators.proofs.diadic_instructions.Tie as tie
 
 pub diadic-instructions-spec : {M : Type 1} → statement M
 diadic-instructions-spec =

@@ -1,10 +1,10 @@
--- `emit::diadic` meets its contract: there is room for each part (`first`, `rest`), and together they wrote the whole (`then`).
+-- `operators::diadic` meets its contract: there is room for each part (`first`, `rest`), and together they wrote the whole (`then`).
 -- Assumes nothing.
-use Rattle.emit.specs.Write.{first, rest, then}
+use Rattle.instructions.specs.Write.{first, rest, then}
 use Rattle.rules.specs.Blocks.{work-diadic-code}
 use borrow.Author.Needs.{needs}
-use Rattle.emit.proofs.diadic.Statement.{statement}
-use Rattle.emit.proofs.diadic.Tie as tie
+use Rattle.operators.proofs.diadic.Statement.{statement}
+use Rattle.operators.proofs.diadic.Tie as tie
 
 pub diadic-spec : {M : Type 1} → statement M
 diadic-spec =

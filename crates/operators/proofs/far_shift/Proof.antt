@@ -1,10 +1,10 @@
--- `emit::far_shift` meets its contract: it is one write, of the rule's own instructions.
+-- `operators::far_shift` meets its contract: it is one write, of the rule's own instructions.
 -- Assumes nothing.
-use Rattle.emit.specs.Write.{first, rest, then}
+use Rattle.instructions.specs.Write.{first, rest, then}
 use Rattle.rules.specs.Blocks.{far-shift}
 use borrow.Author.Needs.{needs}
-use Rattle.emit.proofs.far_shift.Statement.{statement}
-use Rattle.emit.proofs.far_shift.Tie as tie
+use Rattle.operators.proofs.far_shift.Statement.{statement}
+use Rattle.operators.proofs.far_shift.Tie as tie
 
 pub far-shift-spec : {M : Type 1} → statement M
 far-shift-spec = tie.close (tie.spec

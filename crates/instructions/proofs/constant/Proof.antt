@@ -1,13 +1,13 @@
--- `emit::constant` meets its contract, by the loader's three cases; that the span's byte and count fit their fields is `span-byte` and `trailing-lt`.
+-- `instructions::constant` meets its contract, by the loader's three cases; that the span's byte and count fit their fields is `span-byte` and `trailing-lt`.
 -- Assumes nothing.
 use native.Mathlib.Omega.{arith}
 use lib.Count.{leading-le, trailing-le}
 use Rattle.rules.specs.Laws.{constant-byte, constant-span, constant-long}
 use Rattle.rules.specs.Bits.{trailing-lt, span-byte}
-use Rattle.emit.specs.Write.{first, rest, then}
+use Rattle.instructions.specs.Write.{first, rest, then}
 use borrow.Author.Needs.{needs}
-use Rattle.emit.proofs.constant.Statement.{statement}
-use Rattle.emit.proofs.constant.Tie as tie
+use Rattle.instructions.proofs.constant.Statement.{statement}
+use Rattle.instructions.proofs.constant.Tie as tie
 
 pub constant-spec : {M : Type 1} → statement M
 constant-spec =

@@ -1,10 +1,10 @@
--- `emit::monadic` meets its contract, by the operator's number.
+-- `operators::monadic` meets its contract, by the operator's number.
 -- Assumes nothing.
 use borrow.Author.Tests.{ne-eqb}
 use Rattle.rules.specs.Blocks.{work-monadic-code}
 use borrow.Author.Needs.{needs}
-use Rattle.emit.proofs.monadic.Statement.{statement}
-use Rattle.emit.proofs.monadic.Tie as tie
+use Rattle.operators.proofs.monadic.Statement.{statement}
+use Rattle.operators.proofs.monadic.Tie as tie
 
 pub monadic-spec : {M : Type 1} → statement M
 monadic-spec =

@@ -1,9 +1,9 @@
--- `emit::put_two` meets its contract: there is room for each part (`first`, `rest`), and together they wrote the whole (`then`).
+-- `instructions::put_two` meets its contract: there is room for each part (`first`, `rest`), and together they wrote the whole (`then`).
 -- Assumes nothing.
-use Rattle.emit.specs.Write.{first, rest, then}
+use Rattle.instructions.specs.Write.{first, rest, then}
 use borrow.Author.Needs.{needs}
-use Rattle.emit.proofs.put_two.Statement.{statement}
-use Rattle.emit.proofs.put_two.Tie as tie
+use Rattle.instructions.proofs.put_two.Statement.{statement}
+use Rattle.instructions.proofs.put_two.Tie as tie
 
 pub put-two-spec : {M : Type 1} → statement M
 put-two-spec = tie.close (tie.spec

@@ -1,10 +1,10 @@
--- `emit::less_than` meets its contract: there is room for each part (`first`, `rest`), and together they wrote the whole (`then`).
+-- `operators::less_than` meets its contract: there is room for each part (`first`, `rest`), and together they wrote the whole (`then`).
 -- Assumes nothing.
-use Rattle.emit.specs.Write.{first, rest, then}
+use Rattle.instructions.specs.Write.{first, rest, then}
 use Rattle.rules.specs.Blocks.{less-than}
 use borrow.Author.Needs.{needs}
-use Rattle.emit.proofs.less_than.Statement.{statement}
-use Rattle.emit.proofs.less_than.Tie as tie
+use Rattle.operators.proofs.less_than.Statement.{statement}
+use Rattle.operators.proofs.less_than.Tie as tie
 
 pub less-than-spec : {M : Type 1} → statement M
 less-than-spec = tie.close (tie.spec

@@ -14,7 +14,7 @@ use Rattle.thumb.specs.declared.Encoded.{Encoded}
 use Rattle.thumb.specs.declared.Instr.{Instr}
 use Rattle.thumb.specs.Bytes.{halfword-bytes, encoded-bytes}
 use Rattle.rules.specs.Bytes.{bytes-of, bytes, size}
-use Rattle.emit.specs.Write.{Room, Wrote}
+use Rattle.instructions.specs.Write.{Room, Wrote}
 
 module _ (i : Instr) (e : Encoded) (is : e ≡ encodeOf i) where
   by-count : bytes (i ∷ []) ≡ encoded-bytes e ++ []
