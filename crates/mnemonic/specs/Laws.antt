@@ -1,10 +1,12 @@
--- The text of an instruction has at most 42 bytes. Laws; rests on Mnemonic.
+-- The text of an instruction has at most 42 bytes; text chosen by a number. Laws; rests on Mnemonic.
 -- Assumes nothing.
-use mathlib.Core.List.{List}
+use mathlib.Core.Path.{_≡_, sym, ap, _∙_}
+use mathlib.Core.List.{List, _++_}
 use Prim.Native.Nat.{ℕ, _+_, _*_, _≤_}
 use native.Mathlib.Omega.{arith}
 use lib.ListN.{length, length-append}
 use Rattle.text.specs.Ascii.{ascii}
+use Rattle.text.specs.Text.{fitted}
 use Rattle.text.specs.Laws.{length-digits}
 use Rattle.thumb.specs.declared.Instr.{Instr}
 use Rattle.thumb.specs.declared.Instr.the-variants.{Shli, Shri, Ashri, Addr, Subr, Movi, Addi, Subi, Ldrpci, Strspi, Ldrspi, Addpci, Addspi, Andr, Xorr, Shl, Shr, Negr, Orr, Mul, Mvnr, Str, Ldr, Stri, Ldri, Incsp, Decsp, Svc, Beq, Bne, Bge, Blt, Bu, Bl}
@@ -64,3 +66,7 @@ length-instruction at (Bge k) = omega (arith, length-branch (ascii "BGE ") at k)
 length-instruction at (Blt k) = omega (arith, length-branch (ascii "BLT ") at k)
 length-instruction at (Bu k) = omega (arith, length-branch (ascii "BU ") at k)
 length-instruction at (Bl k) = omega (arith, length-branch (ascii "BL ") at k)
+
+-- text that a number chose, by another name for the number
+pub numbered : (f : ℕ → List ℕ) (j : ℕ) {k : ℕ} (l z : List ℕ) → z ≡ fitted (l ++ f j) → k ≡ j → z ≡ fitted (l ++ f k)
+numbered f j l z p q = p ∙ sym (ap (λ (n : ℕ). fitted (l ++ f n)) q)
