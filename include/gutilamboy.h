@@ -36,8 +36,7 @@ struct gutilamboy_translation {
 };
 
 /* Translates a source. The table's rows and the image stand at the start of the buffers, zeros behind them.
- * Stack: 31 KB of arrays, and more the deeper a source nests and the longer its lists are; measured on x86-64, 56 KB
- * for usual sources of 1,024 tokens and 545 KB for the worst, a thousand open braces (docs/BENCHMARKS.md). */
+ * Stack: at most 64 KB, whatever the source; measured on x86-64 (docs/BENCHMARKS.md). */
 void device_translate(const uint8_t *source, size_t source_length,
                       uint32_t *table, size_t table_length,
                       uint8_t *code, size_t code_length,

@@ -6,6 +6,7 @@ pub mod device;
 pub mod image;
 pub mod random;
 pub mod second;
+pub mod stack;
 
 /// What a translation answers.
 #[derive(Clone, Copy, Debug, Default, PartialEq, Eq)]

@@ -7,9 +7,8 @@
 //!     measure bytes FILE...         tokens and image bytes of files
 
 use reference::generate::{program, render, Random};
-use std::hint::black_box;
 use std::time::Instant;
-use tests::{arm, device, needed_words, Translation, CODE_BYTES, TABLE_WORDS};
+use tests::{arm, device, needed_words, stack, Translation, CODE_BYTES, TABLE_WORDS};
 
 fn main() {
     let arguments: Vec<String> = std::env::args().skip(1).collect();
@@ -22,7 +21,8 @@ fn main() {
         }
         ["stack", ref files @ ..] => files.iter().for_each(|file| {
             let source = read(file);
-            println!("| {} | {} | {} |", name(file), translate(&source).0.status, stack(source));
+            let status = translate(&source).0.status;
+            println!("| {} | {status} | {} |", name(file), stack::taken(&[source])[0]);
         }),
         ["speed"] => speed(),
         ["bytes", ref files @ ..] => files.iter().for_each(|file| bytes(file)),
@@ -79,42 +79,6 @@ fn source(tokens: usize, kind: &str) -> String {
     text.splice(0..0, "||".repeat(missing).into_bytes());
     assert_eq!(counted(&text), tokens);
     text.into_iter().map(char::from).map(|c| if c.is_ascii() { c } else { '?' }).collect()
-}
-
-/// Bytes of stack that one call takes, by filling the stack below with a pattern and looking how far it was
-/// written. In a thread of its own, whose whole stack is there to be written.
-fn stack(source: Vec<u8>) -> usize {
-    const ROOM: usize = 3 << 20;
-    const CLEAR: usize = 512;
-    const PATTERN: u8 = 0xa5;
-
-    #[inline(never)]
-    fn paint(top: usize) {
-        for at in (top - ROOM..top - CLEAR).rev() {
-            unsafe { (at as *mut u8).write_volatile(PATTERN) };
-        }
-    }
-
-    #[inline(never)]
-    fn deepest(top: usize) -> usize {
-        let mut at = top - ROOM;
-        assert_eq!(unsafe { (at as *const u8).read_volatile() }, PATTERN, "more stack than was looked at");
-        while at < top - CLEAR && unsafe { (at as *const u8).read_volatile() } == PATTERN {
-            at += 1;
-        }
-        top - at
-    }
-
-    let measure = move || {
-        let (mut table, mut code) = (vec![0; TABLE_WORDS], vec![0; CODE_BYTES]);
-        let here = 0u8;
-        let top = black_box(&here) as *const u8 as usize;
-        paint(top);
-        black_box(device::translate(&source, &mut table, &mut code));
-        deepest(top)
-    };
-    let thread = std::thread::Builder::new().stack_size(4 * ROOM);
-    thread.spawn(measure).expect("a thread").join().expect("a number")
 }
 
 /// Instructions a second of `device_run` and of the second interpreter, on the same images, the best of five.

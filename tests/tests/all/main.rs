@@ -7,6 +7,7 @@ mod cases;
 mod front;
 mod machine;
 mod runs;
+mod stack;
 
 /// Prints a line past the test runner's capture, so that a plain `cargo test`
 /// shows how much the tests went through.
