@@ -30,7 +30,7 @@ use Rattle.front.specs.Front as front
 use Rattle.front.specs.Front.{judged}
 use Rattle.front.specs.Exact.{no-complaint}
 use Rattle.name_table.specs.View.{Table, view, text-at, place-at}
-use Rattle.binding.specs.Judge.{or-else, first-append}
+use Rattle.judging.specs.Judge.{or-else, first-append}
 use Rattle.binding.specs.Going.{Filled, Fills}
 use Rattle.binding.specs.declared.Progress.{Progress}
 use Rattle.binding.specs.declared.Progress.the-variants as bound

@@ -23,12 +23,12 @@ use Rattle.names.specs.Resolve.{declarations}
 use Rattle.expressions.specs.Parts.{table-one}
 use Rattle.name_table.specs.View.{Table, view, meant, by-sort, text-at, place-at}
 use Rattle.name_table.specs.View as views
-use Rattle.binding.specs.Judge.{verdict-of, or-else, first-append, listed, over, some, constant-read, constant-at, complaints-by, item-of, item-row, specification-at, width, specified-complaints, specified-scope, specified-rows}
+use Rattle.judging.specs.Judge.{verdict-of, or-else, first-append, listed, over, some, constant-read, constant-at, complaints-by, item-of, item-row, specification-at, width, specified-complaints, specified-scope, specified-rows}
 use Rattle.binding.specs.Here.{specification-here, comment-here, none-left, some-left}
 use Rattle.name_table.specs.declared.Meaning as found
-use Rattle.binding.specs.declared.Verdict as code
-use Rattle.binding.specs.declared.Constant as read
-use Rattle.binding.specs.declared.Item.{Item}
+use Rattle.judging.specs.declared.Verdict as code
+use Rattle.judging.specs.declared.Constant as read
+use Rattle.judging.specs.declared.Item.{Item}
 use Rattle.binding.specs.declared.Progress.{Progress}
 use Rattle.binding.specs.declared.Progress.the-variants.{Refused, Declared}
 

@@ -13,7 +13,7 @@ use Rattle.token.specs.Kinds as kind
 use Rattle.grammar.specs.Grammar.{Token, number, name, mark, Constant, literal, named, Specification, var, array, val, commented, Process, text-process, text-constant, text-specification, text-specifications}
 use Rattle.grammar.specs.Tokens.{token-of, unread}
 use Rattle.grammar.specs.Unread.{unread-cons, unread-end, length-unread}
-use Rattle.binding.specs.Judge.{constant-at, specification-at, width}
+use Rattle.judging.specs.Judge.{constant-at, specification-at, width}
 
 never {ℓ} : {A : Type ℓ} → _≡_ {A = ℕ} 0 1 → A
 never z = absurd (omega arith)

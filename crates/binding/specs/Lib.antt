@@ -1,4 +1,3 @@
 -- The start of checking: specifications fill the name table, or the first complaint among them.
-pub mod Judge
 pub mod Here
 pub mod Going

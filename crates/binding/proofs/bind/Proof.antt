@@ -1,7 +1,7 @@
 -- `binding::bind` meets its contract. The invariant: what is left of the specifications, by `Going`; the counts are within their limits.
 -- Assumes nothing.
-use Rattle.binding.specs.Judge as judging
-use Rattle.binding.specs.Judge.{width-small}
+use Rattle.judging.specs.Judge as judging
+use Rattle.judging.specs.Judge.{width-small}
 use borrow.Author.Needs.{needs}
 use native.Mathlib.Omega.{arith}
 use mathlib.Core.Path.{_≡_, refl, sym, ap, subst, _∙_}

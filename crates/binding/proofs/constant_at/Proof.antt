@@ -7,8 +7,8 @@ use borrow.Author.Tests.{eq-eqb, ne-eqb}
 use Rattle.names.specs.Scope.{lookup}
 use Rattle.name_table.specs.View.{view, arrays}
 use Rattle.name_table.specs.View as views
-use Rattle.binding.specs.Judge.{constant-by}
-use Rattle.binding.specs.declared.Constant.{Constant}
+use Rattle.judging.specs.Judge.{constant-by}
+use Rattle.judging.specs.declared.Constant.{Constant}
 use borrow.Author.Needs.{needs}
 use Rattle.binding.proofs.constant_at.Statement.{statement}
 use Rattle.binding.proofs.constant_at.Tie as tie

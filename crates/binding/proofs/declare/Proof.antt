@@ -3,7 +3,7 @@
 use native.Mathlib.Omega.{arith}
 use mathlib.Core.Path.{refl, sym, ap, _∙_}
 use Rattle.name_table.specs.View.{arrays, meant}
-use Rattle.binding.specs.Judge.{verdict-of}
+use Rattle.judging.specs.Judge.{verdict-of}
 use Rattle.binding.specs.Going.{scope-of, room, judged-as, put-as}
 use borrow.Author.Needs.{needs}
 use Rattle.binding.proofs.declare.Statement.{statement}

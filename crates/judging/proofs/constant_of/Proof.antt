@@ -1,8 +1,8 @@
--- `binding::constant_of` meets its contract. Each way through the code makes the same choices as the definition.
+-- `judging::constant_of` meets its contract. Each way through the code makes the same choices as the definition.
 -- Assumes nothing.
 use borrow.Author.Needs.{needs}
-use Rattle.binding.proofs.constant_of.Statement.{statement}
-use Rattle.binding.proofs.constant_of.Tie as tie
+use Rattle.judging.proofs.constant_of.Statement.{statement}
+use Rattle.judging.proofs.constant_of.Tie as tie
 
 pub constant-of-spec : {M : Type 1} → statement M
 constant-of-spec =

@@ -1,9 +1,9 @@
--- `binding::item_of` meets its contract. Each way through the code makes the same choices as the definition.
+-- `judging::item_of` meets its contract. Each way through the code makes the same choices as the definition.
 -- Assumes nothing.
 use Rattle.word.specs.Tests.{tests}
-use Rattle.binding.specs.Judge.{item-of}
-use Rattle.binding.proofs.item_of.Statement.{statement}
-use Rattle.binding.proofs.item_of.Tie as tie
+use Rattle.judging.specs.Judge.{item-of}
+use Rattle.judging.proofs.item_of.Statement.{statement}
+use Rattle.judging.proofs.item_of.Tie as tie
 
 pub item-of-spec : {M : Type 1} → statement M
 item-of-spec = tie.close (tie.spec

@@ -1,16 +1,16 @@
--- `binding::judge` meets its contract. Each way through the code makes the same choices as the definition.
+-- `judging::judge` meets its contract. Each way through the code makes the same choices as the definition.
 -- Assumes nothing.
 use mathlib.Core.List.{_++_}
 use Rattle.names.specs.Complaints.{is-known, when, bad-length}
 use Rattle.name_table.specs.View.{meant}
-use Rattle.binding.specs.Judge.{listed, over}
+use Rattle.judging.specs.Judge.{listed, over}
 use mathlib.Core.Path.{sym, ap, _∙_}
 use borrow.Author.Tests.{eq-eqb, ne-eqb}
 use Rattle.names.specs.Complaints.{Verdict}
-use Rattle.binding.specs.Judge.{complaints-by, first-append, first-none, or-else}
+use Rattle.judging.specs.Judge.{complaints-by, first-append, first-none, or-else}
 use borrow.Author.Needs.{needs}
-use Rattle.binding.proofs.judge.Statement.{statement}
-use Rattle.binding.proofs.judge.Tie as tie
+use Rattle.judging.proofs.judge.Statement.{statement}
+use Rattle.judging.proofs.judge.Tie as tie
 
 pub judge-spec : {M : Type 1} → statement M
 judge-spec =

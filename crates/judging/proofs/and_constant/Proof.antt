@@ -1,9 +1,9 @@
--- `binding::and_constant` meets its contract. Each way through the code makes the same choices as the definition.
+-- `judging::and_constant` meets its contract. Each way through the code makes the same choices as the definition.
 -- Assumes nothing.
 use borrow.Author.Tests.{eq-eqb, ne-eqb}
 use borrow.Author.Needs.{needs}
-use Rattle.binding.proofs.and_constant.Statement.{statement}
-use Rattle.binding.proofs.and_constant.Tie as tie
+use Rattle.judging.proofs.and_constant.Statement.{statement}
+use Rattle.judging.proofs.and_constant.Tie as tie
 
 pub and-constant-spec : {M : Type 1} → statement M
 and-constant-spec = tie.close (tie.spec

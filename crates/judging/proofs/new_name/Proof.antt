@@ -1,9 +1,9 @@
--- `binding::new_name` meets its contract. Each way through the code makes the same choices as the definition.
+-- `judging::new_name` meets its contract. Each way through the code makes the same choices as the definition.
 -- Assumes nothing.
 use mathlib.Core.Path.{sym, _∙_}
 use borrow.Author.Needs.{needs}
-use Rattle.binding.proofs.new_name.Statement.{statement}
-use Rattle.binding.proofs.new_name.Tie as tie
+use Rattle.judging.proofs.new_name.Statement.{statement}
+use Rattle.judging.proofs.new_name.Tie as tie
 
 pub new-name-spec : {M : Type 1} → statement M
 new-name-spec = tie.close (tie.spec

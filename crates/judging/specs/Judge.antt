@@ -19,10 +19,10 @@ use Rattle.names.specs.Complaints.{Complaint, Verdict, fine, refused, is-known,
 use Rattle.names.specs.First.{first}
 use Rattle.names.specs.Resolve.{declared}
 use Rattle.name_table.specs.View.{meant, by-sort}
-use Rattle.binding.specs.declared.Verdict as code
-use Rattle.binding.specs.declared.Verdict.the-variants.{Fine, Refused}
-use Rattle.binding.specs.declared.Constant as read
-use Rattle.binding.specs.declared.Item.{Item}
+use Rattle.judging.specs.declared.Verdict as code
+use Rattle.judging.specs.declared.Verdict.the-variants.{Fine, Refused}
+use Rattle.judging.specs.declared.Constant as read
+use Rattle.judging.specs.declared.Item.{Item}
 
 -- the code's answer as a verdict
 abbrev pub verdict-of : code.Verdict → Verdict

@@ -1,0 +1,10 @@
+-- `judging::bad_length` meets its contract. Each way through the code makes the same choices as the definition.
+-- Assumes nothing.
+use Rattle.word.specs.Tests.{tests}
+use Rattle.judging.proofs.bad_length.Statement.{statement}
+use Rattle.judging.proofs.bad_length.Tie as tie
+
+pub bad-length-spec : {M : Type 1} → statement M
+bad-length-spec = tie.close (tie.spec
+    (λ c. search tests depth 20)
+    (λ c. search tests depth 20))

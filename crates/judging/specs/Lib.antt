@@ -1,0 +1,2 @@
+-- What a specification deserves, and what it declares.
+pub mod Judge
