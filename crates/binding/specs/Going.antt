@@ -11,7 +11,7 @@ use lib.ListN.{length, getD, length-append}
 use lib.Seq.{sets}
 use borrow.Author.Tests.{ltb-false, eqb-true, eqb-false}
 use Rattle.word.specs.Choice.{pick, by-test}
-use Rattle.token.specs.Kinds as kind
+use Rattle.spelling.specs.Kinds as kind
 use Rattle.grammar.specs.Grammar.{Specification, commented, Process, text-process, text-specifications}
 use Rattle.grammar.specs.Tokens.{unread}
 use Rattle.program.specs.Rows.{declared-rows}

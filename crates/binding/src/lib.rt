@@ -11,7 +11,7 @@ use judging::width;
 use name_table::add;
 use name_table::number;
 use name_table::stands_for;
-use token::kind;
+use spelling::kind;
 ghost use mathlib.Core.Path.{_≡_};
 ghost use mathlib.Core.List.{List, [], _∷_, _++_};
 ghost use Prim.Native.Nat.{ℕ, suc, _+_, _-_, _*_, _<_, _≤_};

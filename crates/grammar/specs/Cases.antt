@@ -4,7 +4,7 @@ use mathlib.Core.Path.{_≡_, refl}
 use mathlib.Core.Bool.{true, false}
 use mathlib.Core.List.{List, [], _∷_}
 use Prim.Native.Nat.{ℕ, zero, suc}
-use Rattle.token.specs.Kinds as kind
+use Rattle.spelling.specs.Kinds as kind
 use Rattle.grammar.specs.Grammar.{Token, number, name, mark, single, diadic, Chain, last, more, constant, skip, stop, assign, assign-element, empty, braces, only, followed, var, program}
 use Rattle.grammar.specs.Automaton.{accepted, refused, run, reads}
 use Rattle.grammar.specs.Depth.{depth, deepest, too-deep}

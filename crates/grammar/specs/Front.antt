@@ -4,7 +4,7 @@ use mathlib.Core.Bool.{Bool, true, false}
 use mathlib.Core.List.{List, [], _∷_}
 use Prim.Native.Nat.{ℕ, zero, suc}
 use native.Mathlib.Omega.{arith}
-use Rattle.token.specs.Kinds as kind
+use Rattle.spelling.specs.Kinds as kind
 use Rattle.grammar.specs.Grammar.{Token, number, name, mark, Process, after-comment, Constant, Specification, var, array, val, program}
 use Rattle.grammar.specs.Automaton.{ProcessContext, top, comments-before, in-comments, in-order, var-read, array-read, array-named, array-opened, array-sized, val-read, val-named, val-equated, whole, State, at-front, specifying, need-process, have-process, is, accepted, refused, run}
 use Rattle.grammar.specs.Moves.{head-is, run-commented}

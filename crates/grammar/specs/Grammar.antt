@@ -6,7 +6,7 @@ use mathlib.Core.List.{List, [], _∷_}
 use Prim.Native.Nat.{ℕ}
 use lib.Dec.{eqb, leb}
 use Rattle.word.specs.Choice.{pick}
-use Rattle.token.specs.Kinds as kind
+use Rattle.spelling.specs.Kinds as kind
 
 -- a token as the grammar sees it: a constant with its word, a name with the number of its token, a mark with its kind
 pub data Token : Type 0 where

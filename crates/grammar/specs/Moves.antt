@@ -5,7 +5,7 @@ use mathlib.Core.List.{List, [], _∷_}
 use Prim.Native.Nat.{ℕ}
 use lib.Dec.{eqb}
 use borrow.Author.Tests.{eq-eqb}
-use Rattle.token.specs.Kinds as kind
+use Rattle.spelling.specs.Kinds as kind
 use Rattle.grammar.specs.Grammar.{Token, number, name, mark, Expression, single, monadic, last, Operand, constant, variable, element, bracketed, Process, skip, stop, assign, assign-element, empty, braces, conditional, while, after-comment, only, is-monadic, is-diadic, is-associative}
 use Rattle.grammar.specs.Automaton.{ProcessContext, in-braces, in-then, in-else, in-body, in-comment, ListContext, opened, also, ExpressionContext, in-assign, in-target, in-assign-element, in-if, in-while, in-brackets, in-subscript, OperandContext, first, under, next, ChainContext, after, link, chain-base, chain-built, list-base, list-built, need-process, brace-opened, target, target-element, have-process, need-expression, need-operand, name-read, have-operand, have-expression, is, kind-of, goes-on, refused, run}
 

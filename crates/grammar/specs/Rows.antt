@@ -4,7 +4,7 @@ use mathlib.Core.List.{List, [], _∷_, _++_}
 use Prim.Native.Nat.{ℕ, _+_, _-_}
 use lib.Dec.{eqb}
 use Rattle.word.specs.Choice.{pick}
-use Rattle.token.specs.Kinds as kind
+use Rattle.spelling.specs.Kinds as kind
 use Rattle.grammar.specs.Grammar.{Expression, single, monadic, diadic, Chain, last, more, Operand, constant, variable, element, bracketed, Process, skip, stop, assign, assign-element, empty, braces, conditional, while, after-comment, Processes, only, followed, Specification, var, array, val, commented, Program, program}
 
 -- "`{ }` is skip; brackets and one-process braces make no row": how many rows a part has

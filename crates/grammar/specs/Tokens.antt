@@ -4,7 +4,7 @@ use Prim.Native.Nat.{ℕ, zero, suc, _-_}
 use lib.Dec.{eqb}
 use lib.ListN.{length, getD}
 use Rattle.word.specs.Choice.{pick}
-use Rattle.token.specs.Kinds as kind
+use Rattle.spelling.specs.Kinds as kind
 use Rattle.grammar.specs.Grammar.{Token, number, name, mark}
 
 -- token i, of kind k and value v

@@ -9,7 +9,7 @@ use lib.Dec.{eqb, ltb}
 use lib.ListN.{length, getD, List·getD-eq-default}
 use borrow.Author.Tests.{ltb-true, ltb-false, eqb-true, eqb-false, ne-eqb}
 use Rattle.word.specs.Choice.{pick, by-test}
-use Rattle.token.specs.Kinds as kind
+use Rattle.spelling.specs.Kinds as kind
 use Rattle.grammar.specs.Grammar.{Token, number, name, mark, is-monadic, is-diadic, is-associative}
 use Rattle.grammar.specs.Automaton.{is, kind-of, goes-on, OperandContext, need-operand, ProcessContext, need-process, run, refused}
 use Rattle.grammar.specs.Tokens.{token-of, tokens, unread}

@@ -9,7 +9,7 @@ use lib.Dec.{eqb, ltb}
 use lib.ListN.{getD}
 use native.Mathlib.Nat.{add-zero}
 use Rattle.word.specs.Choice.{pick}
-use Rattle.token.specs.Kinds as kind
+use Rattle.spelling.specs.Kinds as kind
 use Rattle.grammar.specs.Grammar.{Specification, val}
 use Rattle.grammar.specs.Grammar as grammar
 use Rattle.program.specs.Tree as tree

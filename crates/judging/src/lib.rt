@@ -1,6 +1,6 @@
 // What a specification deserves, and what it declares: the judging part of filling the name table.
 use name_table::Meaning;
-use token::kind;
+use spelling::kind;
 ghost use mathlib.Core.Path.{_≡_};
 ghost use mathlib.Core.List.{_++_};
 ghost use Rattle.names.specs.Complaints.{«is-known», «bad-length», when};

@@ -47,7 +47,7 @@ fn named(source: &[u8], places: &[u32], lengths: &[u32], k: usize, p: u32, n: u3
 {
     let a = text(source, wide(number(places, k)), wide(number(lengths, k)));
     let b = text(source, wide(p), wide(n));
-    token::equal(a, b)
+    spelling::equal(a, b)
 }
 
 fn meaning_at(rows: &[u32], sorts: &[u32], words: &[u32], sizes: &[u32], k: usize) -> Meaning

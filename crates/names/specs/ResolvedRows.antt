@@ -8,7 +8,7 @@ use lib.ListN.{length, length-append}
 use lib.Dec.{eqb, leb}
 use borrow.Author.Tests.{ne-eqb, leb-true, eq-eqb, eqb-true, eqb-false}
 use Rattle.word.specs.Choice.{pick, both, by-test}
-use Rattle.token.specs.Kinds as kind
+use Rattle.spelling.specs.Kinds as kind
 use Rattle.grammar.specs.Grammar.{Expression, single, monadic, diadic, Chain, last, more, Operand, element, bracketed, Process, skip, stop, assign, assign-element, empty, braces, conditional, while, after-comment, Processes, only, followed, Program, program, is-monadic, is-diadic, well-formed-expression, well-formed-chain, well-formed-operand, well-formed-process, well-formed-processes}
 use Rattle.grammar.specs.Grammar as grammar
 use Rattle.grammar.specs.Rows as raw

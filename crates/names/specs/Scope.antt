@@ -5,7 +5,7 @@ use mathlib.Core.List.{List, [], _∷_}
 use Prim.Native.Nat.{ℕ, _+_}
 use lib.Dec.{eqb}
 use Rattle.word.specs.Choice.{pick}
-pub use Rattle.token.specs.Words.{same}
+pub use Rattle.spelling.specs.Words.{same}
 use Rattle.grammar.specs.Grammar.{Constant, literal, named, Specification, var, val, commented}
 use Rattle.program.specs.Tree.{Variable, Array}
 

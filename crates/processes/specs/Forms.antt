@@ -3,7 +3,7 @@ use mathlib.Core.Path.{_≡_}
 use mathlib.Core.List.{List}
 use Prim.Native.Nat.{ℕ, _<_, _≤_}
 use lib.ListN.{length, getD}
-use Rattle.token.specs.Kinds as kind
+use Rattle.spelling.specs.Kinds as kind
 use Rattle.grammar.specs.Grammar.{Process, Processes, braces}
 use Rattle.grammar.specs.Automaton.{ProcessContext, in-braces, ListContext, list-base, list-built, need-process, have-process}
 use Rattle.grammar.specs.Rows.{count-process, count-processes, rows-process, rows-processes}

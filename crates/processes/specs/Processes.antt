@@ -9,7 +9,7 @@ use lib.ListN.{length, getD}
 use lib.Seq.{sets}
 use borrow.Author.Tests.{ltb-true, ltb-false}
 use Rattle.word.specs.Choice.{by-test}
-use Rattle.token.specs.Kinds as kind
+use Rattle.spelling.specs.Kinds as kind
 use Rattle.grammar.specs.Grammar.{Expression, skip, stop, assign, assign-element, empty, braces, conditional, while, after-comment, only, followed}
 use Rattle.grammar.specs.Automaton.{ProcessContext, in-braces, in-then, in-else, in-body, in-comment, opened, also, in-assign, in-target, in-assign-element, in-if, in-while, need-process, target-element, have-process, need-expression, run}
 use Rattle.grammar.specs.Tokens.{unread}

@@ -4,7 +4,7 @@ use mathlib.Core.List.{List, [], _∷_}
 use Prim.Native.Nat.{ℕ, zero, suc, _+_, _-_, _<_, _≤_}
 use native.Mathlib.Omega.{arith}
 use lib.ListN.{length}
-use Rattle.token.specs.Kinds as kind
+use Rattle.spelling.specs.Kinds as kind
 use Rattle.grammar.specs.Grammar.{Token, mark, Process, after-comment, Constant, literal, named, Specification, var, array, val, commented, Program, program, text-process, text-constant, text-specification}
 use Rattle.grammar.specs.Automaton.{top, in-comments, in-order, at-front, need-process, have-process, accepted, refused, run, reads}
 use Rattle.grammar.specs.Tokens.{unread}

@@ -5,7 +5,7 @@ use Prim.Native.Nat.{ℕ, _+_, _<_, _≤_}
 use lib.Dec.{eqb}
 use lib.ListN.{length, getD}
 use Rattle.word.specs.Choice.{pick}
-use Rattle.token.specs.Kinds as kind
+use Rattle.spelling.specs.Kinds as kind
 use Rattle.grammar.specs.Grammar.{Specification}
 use Rattle.grammar.specs.Automaton.{top, in-comments, comments-before, at-front, need-process, refused, run}
 use Rattle.grammar.specs.Tokens.{unread}

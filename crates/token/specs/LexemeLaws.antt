@@ -11,13 +11,13 @@ use lib.ListN.{length, getD, take, drop, length-drop, length-take, List·getD-eq
 use mathlib.Core.Logic.{⊎-elim}
 use borrow.Author.Tests.{lt-ltb, eq-eqb, ne-eqb, eqb-true, eqb-false, leb-true, leb-false, ltb-true, ltb-false}
 use Rattle.word.specs.Choice.{pick, by-test, both, either}
-use Rattle.token.specs.Kinds as kinds
-use Rattle.token.specs.Characters.{one-of, character, within, letter, digit, digit-value, name-character, literal-character, in-class, span, numeral, separator}
-use Rattle.token.specs.Words.{word, middle-word, late-word, same}
+use Rattle.spelling.specs.Kinds as kinds
+use Rattle.spelling.specs.Characters.{one-of, character, within, letter, digit, digit-value, name-character, literal-character, in-class, span, numeral, separator}
+use Rattle.spelling.specs.Words.{word, middle-word, late-word, same}
 use Rattle.token.specs.Lexemes.{at, spelled, named, number, escape-value, closed, hexadecimal-escape, escape, byte-literal, comment, single, double, symbol, lexeme}
-use Rattle.token.specs.Runs.{span-length}
-use Rattle.token.specs.declared.Class.the-variants.{Name, Comment, Digit}
-use Rattle.token.specs.declared.Word.{Word}
+use Rattle.spelling.specs.Runs.{span-length}
+use Rattle.spelling.specs.declared.Class.the-variants.{Name, Comment, Digit}
+use Rattle.spelling.specs.declared.Word.{Word}
 use Rattle.token.specs.declared.Lexeme.{Lexeme}
 use Rattle.token.specs.declared.Lexeme.the-variants.{Separator, Token, Broken}
 

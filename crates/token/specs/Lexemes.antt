@@ -6,11 +6,11 @@ use Prim.Native.Nat.{ℕ, _+_, _*_}
 use lib.Dec.{eqb, leb, ltb}
 use lib.ListN.{getD, take, drop}
 use Rattle.word.specs.Choice.{pick}
-use Rattle.token.specs.Kinds as kinds
-use Rattle.token.specs.Characters.{digit-value, letter, digit, separator, literal-character, span, numeral}
-use Rattle.token.specs.Words.{word}
-use Rattle.token.specs.declared.Class.the-variants.{Name, Comment, Digit}
-use Rattle.token.specs.declared.Word.{Word}
+use Rattle.spelling.specs.Kinds as kinds
+use Rattle.spelling.specs.Characters.{digit-value, letter, digit, separator, literal-character, span, numeral}
+use Rattle.spelling.specs.Words.{word}
+use Rattle.spelling.specs.declared.Class.the-variants.{Name, Comment, Digit}
+use Rattle.spelling.specs.declared.Word.{Word}
 use Rattle.token.specs.declared.Lexeme.{Lexeme}
 use Rattle.token.specs.declared.Lexeme.the-variants.{Separator, Token, Broken}
 

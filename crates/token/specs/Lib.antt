@@ -1,10 +1,6 @@
--- The tokens of a source: kinds, classes of bytes, what stands at the front of a byte string, the token list and its laws.
-pub mod Kinds
-pub mod Characters
-pub mod Words
+-- The tokens of a source: what stands at the front of a byte string, the token list and its laws.
 pub mod Lexemes
 pub mod Tokens
-pub mod Runs
 pub mod LexemeLaws
 pub mod TokenLaws
 pub mod SourceLaws

@@ -9,7 +9,7 @@ use lib.Dec.{eqb, leb, ltb}
 use lib.ListN.{length, getD}
 use borrow.Author.Tests.{eq-eqb, ne-eqb, eqb-true, eqb-false, leb-true, leb-false, ltb-true}
 use Rattle.word.specs.Choice.{pick, by-test, both}
-use Rattle.token.specs.Kinds as kinds
+use Rattle.spelling.specs.Kinds as kinds
 use Rattle.token.specs.Lexemes.{lexeme}
 use Rattle.token.specs.Tokens.{Entry, Outcome, read, refused, also, taken, scan, outcome, entries}
 use Rattle.token.specs.LexemeLaws.{known, matched, Fits, Good, lexeme-good}

@@ -11,10 +11,10 @@ use lib.ListN.{length, getD, drop, set, drop-of-length-le, length-drop}
 use lib.Seq.{drop-drop, drop-nil, getD-set-same, getD-set-other}
 use borrow.Author.Tests.{le-leb, lt-leb, eqb-true, leb-true}
 use Rattle.word.specs.Choice.{pick, by-test}
-use Rattle.token.specs.Kinds as kinds
+use Rattle.spelling.specs.Kinds as kinds
 use Rattle.token.specs.Lexemes.{lexeme}
 use Rattle.token.specs.Tokens.{Entry, Outcome, read, refused, also, taken, scan, outcome, entries}
-use Rattle.token.specs.Runs.{drop-one}
+use Rattle.spelling.specs.Runs.{drop-one}
 use Rattle.token.specs.LexemeLaws.{known, matched, Fits, Good, lexeme-good}
 use Rattle.token.specs.declared.Lexeme.{Lexeme}
 use Rattle.token.specs.declared.Lexeme.the-variants.{Separator, Token, Broken}

@@ -3,8 +3,8 @@
 use mathlib.Core.Path.{_≡_, refl}
 use mathlib.Core.List.{List, [], _∷_, map}
 use Prim.Native.Nat.{ℕ}
-use Rattle.token.specs.Characters.{one-of, digit-value, name-character, character, span, numeral}
-use Rattle.token.specs.Words.{same, word, middle-word, late-word}
+use Rattle.spelling.specs.Characters.{one-of, digit-value, name-character, character, span, numeral}
+use Rattle.spelling.specs.Words.{same, word, middle-word, late-word}
 use Rattle.token.specs.Lexemes as lexemes
 use Rattle.token.specs.Lexemes.{double, single, symbol, lexeme}
 use Rattle.token.specs.Tokens.{scan, outcome}

@@ -2,8 +2,8 @@
 -- Assumes nothing.
 use native.Mathlib.Omega.{arith}
 use lib.ListN.{drop, length-drop}
-use Rattle.token.specs.Runs.{span-length}
-use Rattle.token.specs.declared.Class.the-variants.{Comment}
+use Rattle.spelling.specs.Runs.{span-length}
+use Rattle.spelling.specs.declared.Class.the-variants.{Comment}
 use Rattle.word.specs.Tests.{tests}
 use Rattle.token.specs.Lexemes.{comment}
 use borrow.Author.Needs.{needs}

@@ -6,8 +6,8 @@ use Prim.Native.Nat.{ℕ, _+_, _-_}
 use borrow.Author.Tests.{le-leb, lt-leb}
 use lib.ListN.{drop, length-drop}
 use Rattle.token.specs.Lexemes.{named}
-use Rattle.token.specs.Runs.{span-length}
-use Rattle.token.specs.declared.Class.the-variants.{Name}
+use Rattle.spelling.specs.Runs.{span-length}
+use Rattle.spelling.specs.declared.Class.the-variants.{Name}
 use borrow.Author.Needs.{needs}
 use Rattle.token.proofs.named.Statement.{statement}
 use Rattle.token.proofs.named.Tie as tie

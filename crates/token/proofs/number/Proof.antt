@@ -6,10 +6,10 @@ use Prim.Native.Nat.{ℕ, _<_}
 use borrow.Author.Tests.{ne-eqb, le-leb, lt-leb}
 use lib.ListN.{drop, length-drop}
 use Rattle.word.specs.Tests.{tests}
-use Rattle.token.specs.Characters as characters
+use Rattle.spelling.specs.Characters as characters
 use Rattle.token.specs.Lexemes.{number}
-use Rattle.token.specs.Runs.{span-length}
-use Rattle.token.specs.declared.Class.the-variants.{Digit}
+use Rattle.spelling.specs.Runs.{span-length}
+use Rattle.spelling.specs.declared.Class.the-variants.{Digit}
 use borrow.Author.Needs.{needs}
 use Rattle.token.proofs.number.Statement.{statement}
 use Rattle.token.proofs.number.Tie as tie

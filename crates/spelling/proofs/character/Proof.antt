@@ -1,0 +1,19 @@
+-- `spelling::character` meets its contract. Each way through the code makes the same choices as the definition.
+-- Assumes nothing.
+use Rattle.word.specs.Tests.{tests}
+use Rattle.spelling.specs.Characters.{character}
+use borrow.Author.Needs.{needs}
+use Rattle.spelling.proofs.character.Statement.{statement}
+use Rattle.spelling.proofs.character.Tie as tie
+
+pub character-spec : {M : Type 1} → statement M
+character-spec =
+    tie.close
+    (tie.spec
+    (λ c κs. search needs)
+    (λ c. unfold character in search tests depth 20)
+    (λ c κs. search needs)
+    (λ c. unfold character in rw (← c .before .digit-value .ensures) (search tests depth 20))
+    (λ c. search needs)
+    (λ c κs. search needs)
+    (λ c. unfold character in rw (← c .before .before .before .digit-value .ensures) (search tests depth 20)))

@@ -1,0 +1,47 @@
+-- `spelling::late_word` meets its contract. Each way through the code makes the same choices as the definition.
+-- Assumes nothing.
+use mathlib.Core.List.{[], _∷_}
+use mathlib.Core.Path.{refl, sym, _∙_}
+use native.Mathlib.Omega.{arith}
+use Rattle.word.specs.Choice.{pick-f}
+use Rattle.spelling.specs.Words.{late-word, same}
+use Rattle.spelling.specs.Runs.{told}
+use borrow.Author.Needs.{needs}
+use Rattle.spelling.proofs.late_word.Statement.{statement}
+use Rattle.spelling.proofs.late_word.Tie as tie
+
+pub late-word-spec : {M : Type 1} → statement M
+late-word-spec =
+    tie.close
+    (tie.spec
+    (λ c. search needs)
+    (λ c κs. search needs)
+    (λ c κs. search needs)
+    (λ c. unfold late-word same in told late-word (c .before .before .before .before .before .args .w .now) (116 ∷ 104 ∷ 101 ∷ 110 ∷ []) _ _ (c .before .before .equal .ensures) (c .before .if1 .taken) (c .is .ensures))
+    (λ c. search needs)
+    (λ c κs. search needs)
+    (λ c κs. search needs)
+    (λ c. unfold late-word same in told late-word (c .before .before .before .before .before .before .before .before .args .w .now) (116 ∷ 114 ∷ 117 ∷ 101 ∷ []) _ _ (c .before .before .equal2 .ensures) (c .before .if2 .taken) (c .is2 .ensures))
+    (λ c. search needs)
+    (λ c κs. search needs)
+    (λ c κs. search needs)
+    (λ c. unfold late-word same in told late-word (c .before .before .before .before .before .before .before .before .before .before .before .args .w .now) (118 ∷ 97 ∷ 108 ∷ []) _ _ (c .before .before .equal3 .ensures) (c .before .if3 .taken) (c .is3 .ensures))
+    (λ c. search needs)
+    (λ c κs. search needs)
+    (λ c κs. search needs)
+    (λ c. unfold late-word same in told late-word (c .before .before .before .before .before .before .before .before .before .before .before .before .before .before .args .w .now) (118 ∷ 97 ∷ 108 ∷ 111 ∷ 102 ∷ []) _ _ (c .before .before .equal4 .ensures) (c .before .if4 .taken) (c .is4 .ensures))
+    (λ c. search needs)
+    (λ c κs. search needs)
+    (λ c κs. search needs)
+    (λ c. unfold late-word same in told late-word (c .before .before .before .before .before .before .before .before .before .before .before .before .before .before .before .before .before .args .w .now) (118 ∷ 97 ∷ 114 ∷ []) _ _ (c .before .before .equal5 .ensures) (c .before .if5 .taken) (c .is5 .ensures))
+    (λ c. search needs)
+    (λ c κs. search needs)
+    (λ c κs. search needs)
+    (λ c. unfold late-word same in told late-word (c .before .before .before .before .before .before .before .before .before .before .before .before .before .before .before .before .before .before .before .before .args .w .now) (119 ∷ 104 ∷ 105 ∷ 108 ∷ 101 ∷ []) _ _ (c .before .before .equal6 .ensures) (c .before .if6 .taken) (c .is6 .ensures))
+    (λ c. search needs)
+    (λ c κs. search needs)
+    (λ c κs. search needs)
+    (λ c. unfold late-word same in told late-word (c .before .before .before .before .before .before .before .before .before .before .before .before .before .before .before .before .before .before .before .before .before .before .before .args .w .now) (120 ∷ 111 ∷ 114 ∷ []) _ _ (c .before .before .equal7 .ensures) (c .before .if7 .taken) (c .is7 .ensures))
+    (λ c. omega (arith, c .before .before .before .before .before .before .before .before .before .before .before .before .before .before .before .before .before .before .before .before .before .before .pre))
+    (λ c κs. search needs)
+    (λ c. unfold late-word in c .is8 .ensures ∙ (pick-f _ _ _ _ (sym (c .before .before .before .before .before .before .before .before .before .before .before .before .before .before .before .before .before .before .before .before .equal .ensures) ∙ c .before .before .before .before .before .before .before .before .before .before .before .before .before .before .before .before .before .before .before .if1 .left) (pick-f _ _ _ _ (sym (c .before .before .before .before .before .before .before .before .before .before .before .before .before .before .before .before .before .equal2 .ensures) ∙ c .before .before .before .before .before .before .before .before .before .before .before .before .before .before .before .before .if2 .left) (pick-f _ _ _ _ (sym (c .before .before .before .before .before .before .before .before .before .before .before .before .before .before .equal3 .ensures) ∙ c .before .before .before .before .before .before .before .before .before .before .before .before .before .if3 .left) (pick-f _ _ _ _ (sym (c .before .before .before .before .before .before .before .before .before .before .before .equal4 .ensures) ∙ c .before .before .before .before .before .before .before .before .before .before .if4 .left) (pick-f _ _ _ _ (sym (c .before .before .before .before .before .before .before .before .equal5 .ensures) ∙ c .before .before .before .before .before .before .before .if5 .left) (pick-f _ _ _ _ (sym (c .before .before .before .before .before .equal6 .ensures) ∙ c .before .before .before .before .if6 .left) (pick-f _ _ _ _ (sym (c .before .before .equal7 .ensures) ∙ c .before .if7 .left) refl)))))))))

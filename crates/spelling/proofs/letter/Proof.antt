@@ -1,0 +1,13 @@
+-- `spelling::letter` meets its contract. Each way through the code makes the same choices as the definition.
+-- Assumes nothing.
+use Rattle.word.specs.Tests.{tests}
+use borrow.Author.Needs.{needs}
+use Rattle.spelling.proofs.letter.Statement.{statement}
+use Rattle.spelling.proofs.letter.Tie as tie
+
+pub letter-spec : {M : Type 1} → statement M
+letter-spec = tie.close (tie.spec
+    (λ c κs. search needs)
+    (λ c κs. search needs)
+    (λ c. search tests depth 20)
+    (λ c. search tests depth 20))

@@ -1,0 +1,45 @@
+-- `spelling::middle_word` meets its contract. Each way through the code makes the same choices as the definition.
+-- Assumes nothing.
+use mathlib.Core.List.{[], _∷_}
+use mathlib.Core.Path.{refl, sym, _∙_}
+use Rattle.word.specs.Choice.{pick-f}
+use Rattle.spelling.specs.Words.{middle-word, same}
+use Rattle.spelling.specs.Runs.{told}
+use borrow.Author.Needs.{needs}
+use Rattle.spelling.proofs.middle_word.Statement.{statement}
+use Rattle.spelling.proofs.middle_word.Tie as tie
+
+pub middle-word-spec : {M : Type 1} → statement M
+middle-word-spec =
+    tie.close
+    (tie.spec
+    (λ c. search needs)
+    (λ c κs. search needs)
+    (λ c κs. search needs)
+    (λ c. unfold middle-word same in told middle-word (c .before .before .before .before .before .args .w .now) (105 ∷ 115 ∷ []) _ _ (c .before .before .equal .ensures) (c .before .if1 .taken) (c .is .ensures))
+    (λ c. search needs)
+    (λ c κs. search needs)
+    (λ c κs. search needs)
+    (λ c. unfold middle-word same in told middle-word (c .before .before .before .before .before .before .before .before .args .w .now) (110 ∷ 111 ∷ 116 ∷ []) _ _ (c .before .before .equal2 .ensures) (c .before .if2 .taken) (c .is2 .ensures))
+    (λ c. search needs)
+    (λ c κs. search needs)
+    (λ c κs. search needs)
+    (λ c. unfold middle-word same in told middle-word (c .before .before .before .before .before .before .before .before .before .before .before .args .w .now) (111 ∷ 114 ∷ []) _ _ (c .before .before .equal3 .ensures) (c .before .if3 .taken) (c .is3 .ensures))
+    (λ c. search needs)
+    (λ c κs. search needs)
+    (λ c κs. search needs)
+    (λ c. unfold middle-word same in told middle-word (c .before .before .before .before .before .before .before .before .before .before .before .before .before .before .args .w .now) (112 ∷ 114 ∷ 111 ∷ 99 ∷ []) _ _ (c .before .before .equal4 .ensures) (c .before .if4 .taken) (c .is4 .ensures))
+    (λ c. search needs)
+    (λ c κs. search needs)
+    (λ c κs. search needs)
+    (λ c. unfold middle-word same in told middle-word (c .before .before .before .before .before .before .before .before .before .before .before .before .before .before .before .before .before .args .w .now) (114 ∷ 101 ∷ 116 ∷ 117 ∷ 114 ∷ 110 ∷ []) _ _ (c .before .before .equal5 .ensures) (c .before .if5 .taken) (c .is5 .ensures))
+    (λ c. search needs)
+    (λ c κs. search needs)
+    (λ c κs. search needs)
+    (λ c. unfold middle-word same in told middle-word (c .before .before .before .before .before .before .before .before .before .before .before .before .before .before .before .before .before .before .before .before .args .w .now) (115 ∷ 107 ∷ 105 ∷ 112 ∷ []) _ _ (c .before .before .equal6 .ensures) (c .before .if6 .taken) (c .is6 .ensures))
+    (λ c. search needs)
+    (λ c κs. search needs)
+    (λ c κs. search needs)
+    (λ c. unfold middle-word same in told middle-word (c .before .before .before .before .before .before .before .before .before .before .before .before .before .before .before .before .before .before .before .before .before .before .before .args .w .now) (115 ∷ 116 ∷ 111 ∷ 112 ∷ []) _ _ (c .before .before .equal7 .ensures) (c .before .if7 .taken) (c .is7 .ensures))
+    (λ c κs. c .before .before .before .before .before .before .before .before .before .before .before .before .before .before .before .before .before .before .before .before .before .before .pre)
+    (λ c. unfold middle-word in c .late-word .ensures ∙ (pick-f _ _ _ _ (sym (c .before .before .before .before .before .before .before .before .before .before .before .before .before .before .before .before .before .before .before .before .equal .ensures) ∙ c .before .before .before .before .before .before .before .before .before .before .before .before .before .before .before .before .before .before .before .if1 .left) (pick-f _ _ _ _ (sym (c .before .before .before .before .before .before .before .before .before .before .before .before .before .before .before .before .before .equal2 .ensures) ∙ c .before .before .before .before .before .before .before .before .before .before .before .before .before .before .before .before .if2 .left) (pick-f _ _ _ _ (sym (c .before .before .before .before .before .before .before .before .before .before .before .before .before .before .equal3 .ensures) ∙ c .before .before .before .before .before .before .before .before .before .before .before .before .before .if3 .left) (pick-f _ _ _ _ (sym (c .before .before .before .before .before .before .before .before .before .before .before .equal4 .ensures) ∙ c .before .before .before .before .before .before .before .before .before .before .if4 .left) (pick-f _ _ _ _ (sym (c .before .before .before .before .before .before .before .before .equal5 .ensures) ∙ c .before .before .before .before .before .before .before .if5 .left) (pick-f _ _ _ _ (sym (c .before .before .before .before .before .equal6 .ensures) ∙ c .before .before .before .before .if6 .left) (pick-f _ _ _ _ (sym (c .before .before .equal7 .ensures) ∙ c .before .if7 .left) refl)))))))))

@@ -1,0 +1,34 @@
+-- `spelling::span` meets its contract. The invariant: the run from i is what was passed and the run from j.
+-- Assumes nothing.
+use borrow.Author.Needs.{needs}
+use native.Mathlib.Omega.{arith}
+use mathlib.Core.Path.{_≡_, sym, _∙_}
+use Prim.Native.Nat.{_+_, _-_, _≤_}
+use lib.ListN.{length, drop}
+use Rattle.spelling.specs.Characters as characters
+use Rattle.spelling.specs.Runs.{span-in, span-out, span-end}
+use Rattle.spelling.proofs.span.Statement.{statement}
+use Rattle.spelling.proofs.span.Tie as tie
+
+abbrev Inv-loop : tie.InvT-loop
+Inv-loop s class i j₀ j = (i ≤ j) × (characters.span class (drop i s) + i ≡ characters.span class (drop j s) + j)
+
+abbrev μ-loop : tie.MeasureT-loop
+μ-loop s class i j₀ j = length s - j
+
+pub span-spec : {M : Type 1} → statement M
+span-spec =
+    tie.close
+    (tie.spec
+    Inv-loop
+    μ-loop
+    (λ c. search needs)
+    (λ c. search needs)
+    (λ c κs. search needs)
+    (λ c. search needs)
+    (λ c. search needs)
+    (λ c. let e = span-in (c .before .before .before .before .before .before .args .s .now) (c .before .before .before .before .loop .j) (c .before .before .before .before .before .before .args .class) (c .before .before .before .loop-test .taken) (sym (c .before .in-class .ensures) ∙ c .if1 .taken) in omega arith)
+    (λ c. search needs)
+    (λ c. let e = span-out (c .before .before .before .before .before .before .args .s .now) (c .before .before .before .before .loop .j) (c .before .before .before .before .before .before .args .class) (c .before .before .before .loop-test .taken) (sym (c .before .in-class .ensures) ∙ c .if1 .left) in omega arith)
+    (λ c. search needs)
+    (λ c. let e = span-end (c .before .before .before .args .s .now) (c .before .loop .j) (c .before .before .before .args .class) (c .loop-test .left) in omega arith))

@@ -1,0 +1,45 @@
+-- `spelling::word_of` meets its contract. Each way through the code makes the same choices as the definition.
+-- Assumes nothing.
+use mathlib.Core.List.{[], _∷_}
+use mathlib.Core.Path.{refl, sym, _∙_}
+use Rattle.word.specs.Choice.{pick-f}
+use Rattle.spelling.specs.Words.{word, same}
+use Rattle.spelling.specs.Runs.{told}
+use borrow.Author.Needs.{needs}
+use Rattle.spelling.proofs.word_of.Statement.{statement}
+use Rattle.spelling.proofs.word_of.Tie as tie
+
+pub word-of-spec : {M : Type 1} → statement M
+word-of-spec =
+    tie.close
+    (tie.spec
+    (λ c. search needs)
+    (λ c κs. search needs)
+    (λ c κs. search needs)
+    (λ c. unfold word same in told word (c .before .before .before .before .before .args .w .now) (97 ∷ 110 ∷ 100 ∷ []) _ _ (c .before .before .equal .ensures) (c .before .if1 .taken) (c .is .ensures))
+    (λ c. search needs)
+    (λ c κs. search needs)
+    (λ c κs. search needs)
+    (λ c. unfold word same in told word (c .before .before .before .before .before .before .before .before .args .w .now) (97 ∷ 114 ∷ 114 ∷ 97 ∷ 121 ∷ []) _ _ (c .before .before .equal2 .ensures) (c .before .if2 .taken) (c .is2 .ensures))
+    (λ c. search needs)
+    (λ c κs. search needs)
+    (λ c κs. search needs)
+    (λ c. unfold word same in told word (c .before .before .before .before .before .before .before .before .before .before .before .args .w .now) (100 ∷ 111 ∷ []) _ _ (c .before .before .equal3 .ensures) (c .before .if3 .taken) (c .is3 .ensures))
+    (λ c. search needs)
+    (λ c κs. search needs)
+    (λ c κs. search needs)
+    (λ c. unfold word same in told word (c .before .before .before .before .before .before .before .before .before .before .before .before .before .before .args .w .now) (101 ∷ 108 ∷ 115 ∷ 101 ∷ []) _ _ (c .before .before .equal4 .ensures) (c .before .if4 .taken) (c .is4 .ensures))
+    (λ c. search needs)
+    (λ c κs. search needs)
+    (λ c κs. search needs)
+    (λ c. unfold word same in told word (c .before .before .before .before .before .before .before .before .before .before .before .before .before .before .before .before .before .args .w .now) (102 ∷ 97 ∷ 108 ∷ 115 ∷ 101 ∷ []) _ _ (c .before .before .equal5 .ensures) (c .before .if5 .taken) (c .is5 .ensures))
+    (λ c. search needs)
+    (λ c κs. search needs)
+    (λ c κs. search needs)
+    (λ c. unfold word same in told word (c .before .before .before .before .before .before .before .before .before .before .before .before .before .before .before .before .before .before .before .before .args .w .now) (102 ∷ 117 ∷ 110 ∷ 99 ∷ []) _ _ (c .before .before .equal6 .ensures) (c .before .if6 .taken) (c .is6 .ensures))
+    (λ c. search needs)
+    (λ c κs. search needs)
+    (λ c κs. search needs)
+    (λ c. unfold word same in told word (c .before .before .before .before .before .before .before .before .before .before .before .before .before .before .before .before .before .before .before .before .before .before .before .args .w .now) (105 ∷ 102 ∷ []) _ _ (c .before .before .equal7 .ensures) (c .before .if7 .taken) (c .is7 .ensures))
+    (λ c κs. c .before .before .before .before .before .before .before .before .before .before .before .before .before .before .before .before .before .before .before .before .before .before .pre)
+    (λ c. unfold word in c .middle-word .ensures ∙ (pick-f _ _ _ _ (sym (c .before .before .before .before .before .before .before .before .before .before .before .before .before .before .before .before .before .before .before .before .equal .ensures) ∙ c .before .before .before .before .before .before .before .before .before .before .before .before .before .before .before .before .before .before .before .if1 .left) (pick-f _ _ _ _ (sym (c .before .before .before .before .before .before .before .before .before .before .before .before .before .before .before .before .before .equal2 .ensures) ∙ c .before .before .before .before .before .before .before .before .before .before .before .before .before .before .before .before .if2 .left) (pick-f _ _ _ _ (sym (c .before .before .before .before .before .before .before .before .before .before .before .before .before .before .equal3 .ensures) ∙ c .before .before .before .before .before .before .before .before .before .before .before .before .before .if3 .left) (pick-f _ _ _ _ (sym (c .before .before .before .before .before .before .before .before .before .before .before .equal4 .ensures) ∙ c .before .before .before .before .before .before .before .before .before .before .if4 .left) (pick-f _ _ _ _ (sym (c .before .before .before .before .before .before .before .before .equal5 .ensures) ∙ c .before .before .before .before .before .before .before .if5 .left) (pick-f _ _ _ _ (sym (c .before .before .before .before .before .equal6 .ensures) ∙ c .before .before .before .before .if6 .left) (pick-f _ _ _ _ (sym (c .before .before .equal7 .ensures) ∙ c .before .if7 .left) refl)))))))))
