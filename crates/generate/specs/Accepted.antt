@@ -19,7 +19,7 @@ use Rattle.program.specs.ReadBack.{Holds, front, behind, length-rows, some-rows
 use Rattle.rules.specs.Bytes.{bytes, size}
 use Rattle.rules.specs.Code.{image-code, image}
 use Rattle.instructions.specs.Write.{Room, Wrote}
-use Rattle.generate.specs.Well.{Declared, Earlier, Names, Well, WellProcess}
+use Rattle.values.specs.Well.{Declared, Earlier, Names, Well, WellProcess}
 
 -- ── rows n to m name what they should, and the kind of row m is from `low` to `high` ──
 pub record Written (low high : ℕ) (t : List ℕ) (n m : ℕ) : Type 0 where

@@ -1,5 +1,3 @@
--- What the walk over the syntax table asks of the table, what each kind of row says of its code, and that an accepted program's table has it all.
-pub mod Well
-pub mod Walk
+-- How a list is written, and that an accepted program's table has all that the walk asks of a table.
 pub mod Onward
 pub mod Accepted

@@ -4,9 +4,9 @@ use mathlib.Core.List.{List, _++_}
 use Prim.Native.Nat.{ℕ, suc, _≤_}
 use native.Mathlib.Omega.{arith}
 use Rattle.instructions.specs.Write.{Room, Wrote, first, rest, then}
-use Rattle.generate.specs.declared.Row.{Row}
-use Rattle.generate.specs.Well.{row-in, Earlier, Well, WellProcess, WellSingle}
-use Rattle.generate.specs.Walk.{process-in, named, sequence-names, sequence-code}
+use Rattle.values.specs.declared.Row.{Row}
+use Rattle.values.specs.Well.{row-in, Earlier, Well, WellProcess, WellSingle}
+use Rattle.values.specs.Walk.{process-in, named, sequence-names, sequence-code}
 
 -- Of the process in row r, to be written to l from i on, what is left is row s, to be written to l′ from j on; w is what row s says.
 pub record Onward (t : List ℕ) (r : ℕ) (l : List ℕ) (i : ℕ) (s : ℕ) (w : Row) (l′ : List ℕ) (j : ℕ) : Type 0 where

@@ -1,85 +1,15 @@
 // The image of a syntax table: a walk over its rows, from the last one down.
-ghost use mathlib.Core.Path.{_≡_};
-ghost use Prim.Native.Nat.{_+_, _-_, _*_, _<_, _≤_};
-ghost use lib.ListN.{length};
+ghost use Prim.Native.Nat.{_-_, _<_};
 ghost use Rattle.program.specs.Table.{process-at};
 ghost use Rattle.rules.specs.Code.{image-code};
 ghost use Rattle.instructions.specs.Write.{Room, Wrote};
-ghost use Rattle.generate.specs.Well.{row-in, Well, WellExpression, WellProcess, WellSingle};
-ghost use Rattle.generate.specs.Walk.{expression-in, process-in};
+ghost use Rattle.values.specs.Well.{Well, WellProcess, WellSingle};
+ghost use Rattle.values.specs.Walk.{process-in};
 use thumb::Instr;
-
-pub struct Row {
-    pub kind: u32,
-    pub a: u32,
-    pub b: u32,
-    pub c: u32,
-}
-
-fn read_row(table: &[u32], r: usize) -> Row
-    requires { ⌜ 4 * r + 4 ≤ length (now table) ⌝ }
-    ensures { λ w. ⌜ w ≡ row-in (now (table .entry)) r ⌝ }
-{
-    Row {
-        kind: table[4 * r],
-        a: table[4 * r + 1],
-        b: table[4 * r + 2],
-        c: table[4 * r + 3],
-    }
-}
-
-// The code of the expression in row r.
-fn expression(table: &[u32], code: &mut [u8], r: usize, at: usize) -> usize
-    requires { ⌜ WellExpression (now table) r × Room (now code) at (expression-in (now table) r) ⌝ }
-    ensures { λ j. ⌜ Wrote (now (code .entry)) at (expression-in (now (table .entry)) r) (now (code .exit)) j ⌝ }
-{
-    let w = read_row(table, r);
-    let kind = w.kind;
-    if kind == 3 {
-        return emit::push_constant(code, at, w.a);
-    }
-    if kind == 4 {
-        let v = read_row(table, w.a as usize);
-        return emit::push_variable(code, at, v.a);
-    }
-    if kind == 5 {
-        let v = read_row(table, w.a as usize);
-        let a1 = expression(table, code, w.b as usize, at);
-        let a2 = emit::check_subscript(code, a1, v.b);
-        return emit::load_element(code, a2, v.a);
-    }
-    if kind == 6 {
-        let a1 = expression(table, code, w.b as usize, at);
-        return operators::monadic(code, a1, w.a);
-    }
-    let a1 = expression(table, code, w.b as usize, at);
-    let a2 = expression(table, code, w.c as usize, a1);
-    operators::diadic(code, a2, w.a)
-}
-
-// Row r assigns to a variable.
-fn assign(table: &[u32], code: &mut [u8], r: usize, at: usize) -> usize
-    requires { ⌜ Well 10 10 (now table) r × Room (now code) at (process-in (now table) r) ⌝ }
-    ensures { λ j. ⌜ Wrote (now (code .entry)) at (process-in (now (table .entry)) r) (now (code .exit)) j ⌝ }
-{
-    let w = read_row(table, r);
-    let v = read_row(table, w.a as usize);
-    let a1 = expression(table, code, w.b as usize, at);
-    emit::assign_variable(code, a1, v.a)
-}
-
-// Row r assigns to an element.
-fn assign_element(table: &[u32], code: &mut [u8], r: usize, at: usize) -> usize
-    requires { ⌜ Well 11 11 (now table) r × Room (now code) at (process-in (now table) r) ⌝ }
-    ensures { λ j. ⌜ Wrote (now (code .entry)) at (process-in (now (table .entry)) r) (now (code .exit)) j ⌝ }
-{
-    let w = read_row(table, r);
-    let v = read_row(table, w.a as usize);
-    let a1 = expression(table, code, w.b as usize, at);
-    let a2 = emit::check_subscript(code, a1, v.b);
-    let a3 = expression(table, code, w.c as usize, a2);
-    emit::store_element(code, a3, v.a)
-}
+use values::assign;
+use values::assign_element;
+use values::expression;
+use values::read_row;
 
 // The code of the process in row r. Lists are grouped to the right: a part at a time, then the last.
 fn process(table: &[u32], code: &mut [u8], r: usize, at: usize) -> usize

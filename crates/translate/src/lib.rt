@@ -16,7 +16,7 @@ ghost use Rattle.program.specs.Sound.{Sound};
 ghost use Rattle.program.specs.Table.{«process-at»};
 ghost use Rattle.rules.specs.Code as rules;
 ghost use Rattle.instructions.specs.Write.{Room};
-ghost use Rattle.generate.specs.Well.{WellProcess};
+ghost use Rattle.values.specs.Well.{WellProcess};
 ghost use Rattle.front.specs.Front as front;
 ghost use Rattle.translate.specs.Translate.{filled, left, translated, translation};
 ghost use Rattle.translate.specs.Filled.{Parts};

@@ -6,7 +6,7 @@ use native.Mathlib.Omega.{arith}
 use Rattle.rules.specs.Code.{choice-code, repeat-code}
 use Rattle.instructions.specs.Write.{first, rest, then, kept, none}
 use Rattle.emit.specs.Jumps.{then-room, then-ahead, else-room, else-ahead, choice-wrote, body-room, body-ahead, back-room, repeat-wrote}
-use Rattle.generate.specs.Walk.{named, only, kind-is, kind-from, kind-to, skip-code, stop-code, conditional-names, conditional-code, loop-names, loop-code}
+use Rattle.values.specs.Walk.{named, only, kind-is, kind-from, kind-to, skip-code, stop-code, conditional-names, conditional-code, loop-names, loop-code}
 use Rattle.generate.specs.Onward.{Onward, onward, last, left, right, left-asks, turn, only-loop}
 use Prim.Native.Nat.{ℕ, _<_}
 use borrow.Fn.Kinds.{In}
@@ -27,10 +27,10 @@ use Rattle.emit.proofs.jump_back.Reads as jump-back-reads
 use Rattle.emit.proofs.jump_over.Reads as jump-over-reads
 use Rattle.instructions.proofs.put.Reads as put-reads
 use Rattle.emit.proofs.take_condition.Reads as take-condition-reads
-use Rattle.generate.proofs.assign.Reads as assign-reads
-use Rattle.generate.proofs.assign_element.Reads as assign-element-reads
-use Rattle.generate.proofs.expression.Reads as expression-reads
-use Rattle.generate.proofs.read_row.Reads as read-row-reads
+use Rattle.values.proofs.assign.Reads as assign-reads
+use Rattle.values.proofs.assign_element.Reads as assign-element-reads
+use Rattle.values.proofs.expression.Reads as expression-reads
+use Rattle.values.proofs.read_row.Reads as read-row-reads
 use Rattle.generate.proofs.+conditional+process+repeat+single.{statement}
 use Rattle.generate.proofs.+conditional+process+repeat+single.Tie.{close}
 

@@ -7,7 +7,7 @@ use Rattle.program.specs.ReadBack.{length-table}
 use Rattle.program.specs.Table.{process-at}
 use Rattle.rules.specs.Code.{image-code}
 use Rattle.instructions.specs.Write.{Room}
-use Rattle.generate.specs.Well.{WellProcess}
+use Rattle.values.specs.Well.{WellProcess}
 use Rattle.generate.specs.Accepted.{well-table, image-room}
 use Rattle.translate.specs.Filled.{some-row, accepted-left}
 use borrow.Author.Needs.{needs}

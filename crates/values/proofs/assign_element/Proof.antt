@@ -1,10 +1,10 @@
--- `generate::assign_element` meets its contract: subscript, check, value, store, written one after another.
+-- `values::assign_element` meets its contract: subscript, check, value, store, written one after another.
 -- Assumes nothing.
 use Rattle.instructions.specs.Write.{first, rest, then}
-use Rattle.generate.specs.Walk.{named, declared, offset-small, assign-element-names, assign-element-code}
+use Rattle.values.specs.Walk.{named, declared, offset-small, assign-element-names, assign-element-code}
 use borrow.Author.Needs.{needs}
-use Rattle.generate.proofs.assign_element.Statement.{statement}
-use Rattle.generate.proofs.assign_element.Tie as tie
+use Rattle.values.proofs.assign_element.Statement.{statement}
+use Rattle.values.proofs.assign_element.Tie as tie
 
 pub assign-element-spec : {M : Type 1} → statement M
 assign-element-spec =

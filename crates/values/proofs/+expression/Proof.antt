@@ -1,24 +1,24 @@
--- `generate::expression` meets its contract. A row names only earlier rows, so the measure is its number. For each kind a law of `Walk` says what its code is; the parts are written one after another.
+-- `values::expression` meets its contract. A row names only earlier rows, so the measure is its number. For each kind a law of `Walk` says what its code is; the parts are written one after another.
 -- Assumes nothing.
 use mathlib.Core.Path.{_≡_}
 use native.Mathlib.Omega.{arith}
 use Rattle.instructions.specs.Write.{first, rest, then, kept}
-use Rattle.generate.specs.Walk.{named, declared, offset-small, kind-from, kind-to, constant-code, variable-names, variable-code, element-names, element-code, monadic-names, monadic-code, diadic-names, diadic-code}
+use Rattle.values.specs.Walk.{named, declared, offset-small, kind-from, kind-to, constant-code, variable-names, variable-code, element-names, element-code, monadic-names, monadic-code, diadic-names, diadic-code}
 use Prim.Native.Nat.{ℕ, _<_}
 use borrow.Fn.Kinds.{In}
 use borrow.Fn.PlainCycle.{Measures, is, falls, and}
-use Rattle.generate.proofs.expression.Reads as expression
-use Rattle.generate.proofs.expression.Kinds as expression-kinds
-use Rattle.generate.proofs.+expression.Lts-expression as expression-lts
+use Rattle.values.proofs.expression.Reads as expression
+use Rattle.values.proofs.expression.Kinds as expression-kinds
+use Rattle.values.proofs.+expression.Lts-expression as expression-lts
 use Rattle.emit.proofs.check_subscript.Reads as check-subscript-reads
 use Rattle.operators.proofs.diadic.Reads as diadic-reads
 use Rattle.emit.proofs.load_element.Reads as load-element-reads
 use Rattle.operators.proofs.monadic.Reads as monadic-reads
 use Rattle.emit.proofs.push_constant.Reads as push-constant-reads
 use Rattle.emit.proofs.push_variable.Reads as push-variable-reads
-use Rattle.generate.proofs.read_row.Reads as read-row-reads
-use Rattle.generate.proofs.+expression.{statement}
-use Rattle.generate.proofs.+expression.Tie.{close}
+use Rattle.values.proofs.read_row.Reads as read-row-reads
+use Rattle.values.proofs.+expression.{statement}
+use Rattle.values.proofs.+expression.Tie.{close}
 
 abbrev μ-expression : Measures 2 expression-kinds.ps ℕ
 μ-expression κs a = a .1 .1 .0

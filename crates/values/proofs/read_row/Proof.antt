@@ -1,11 +1,11 @@
--- `generate::read_row` meets its contract: four words from 4r on.
+-- `values::read_row` meets its contract: four words from 4r on.
 -- Assumes nothing.
 use mathlib.Core.Path.{_≡_}
 use Prim.Native.Nat.{_+_, _*_}
 use native.Mathlib.Omega.{arith}
 use borrow.Author.Needs.{needs}
-use Rattle.generate.proofs.read_row.Statement.{statement}
-use Rattle.generate.proofs.read_row.Tie as tie
+use Rattle.values.proofs.read_row.Statement.{statement}
+use Rattle.values.proofs.read_row.Tie as tie
 
 pub read-row-spec : {M : Type 1} → statement M
 read-row-spec =

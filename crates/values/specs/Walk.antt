@@ -9,8 +9,8 @@ use Rattle.thumb.specs.declared.Instr.the-variants.{Svc}
 use Rattle.program.specs.Table.{word, monadic-of, diadic-of, expression-at, process-at, at-constant, at-variable, at-element, at-monadic, at-diadic, at-skip, at-stop, at-assign, at-assign-element, at-sequence, at-conditional, at-loop}
 use Rattle.rules.specs.Blocks.{push-constant, push-variable, check-subscript, load-element, work-monadic-code, work-diadic-code, assign-variable, store-element}
 use Rattle.rules.specs.Code.{expression-code, process-code, choice-code, repeat-code}
-use Rattle.generate.specs.declared.Row.{Row}
-use Rattle.generate.specs.Well.{row-in, Declared, Earlier, Expression, Process, Names, Well}
+use Rattle.values.specs.declared.Row.{Row}
+use Rattle.values.specs.Well.{row-in, Declared, Earlier, Expression, Process, Names, Well}
 
 -- the code of the expression in row r, of the process
 abbrev pub expression-in : List ℕ → ℕ → List Instr

@@ -6,7 +6,7 @@ use lib.ListN.{length}
 use lib.Dec.{eqb}
 use Rattle.word.specs.Choice.{pick}
 use Rattle.program.specs.Table.{word}
-use Rattle.generate.specs.declared.Row.{Row}
+use Rattle.values.specs.declared.Row.{Row}
 
 -- the four words of row r
 abbrev pub row-in : List ℕ → ℕ → Row

@@ -1,10 +1,10 @@
--- `generate::assign` meets its contract: the row's code is the value's and the assignment's, written one after another.
+-- `values::assign` meets its contract: the row's code is the value's and the assignment's, written one after another.
 -- Assumes nothing.
 use Rattle.instructions.specs.Write.{first, rest, then}
-use Rattle.generate.specs.Walk.{named, declared, offset-small, assign-names, assign-code}
+use Rattle.values.specs.Walk.{named, declared, offset-small, assign-names, assign-code}
 use borrow.Author.Needs.{needs}
-use Rattle.generate.proofs.assign.Statement.{statement}
-use Rattle.generate.proofs.assign.Tie as tie
+use Rattle.values.proofs.assign.Statement.{statement}
+use Rattle.values.proofs.assign.Tie as tie
 
 pub assign-spec : {M : Type 1} → statement M
 assign-spec =
