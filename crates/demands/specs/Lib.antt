@@ -1,3 +1,4 @@
 -- Demands 1, 2 and 3 from source bytes to machine calls.
 pub mod Statement
 pub mod Proof
+pub mod Starred

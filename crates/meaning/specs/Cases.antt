@@ -1,9 +1,9 @@
--- The starred cases of what a program means, in one statement over a list, with some more on its edges.
+-- The operators on the edges of their words, as one statement over a list.
 use mathlib.Core.Path.{_≡_, refl}
 use mathlib.Core.List.{[], _∷_, map}
 use Prim.Native.Nat.{ℕ}
 use Rattle.word.specs.Word.{shift-left, shift-right, signed-less}
-use Rattle.program.specs.Tree.{Diadic, plus, minus, times, right, left, less, at-most, greater, at-least}
+use Rattle.program.specs.Tree.{Diadic, plus, minus, times, right, left, at-most, greater, at-least}
 use Rattle.meaning.specs.Operators.{work-diadic}
 
 pub record Case : Type 0 where
@@ -17,10 +17,10 @@ case o x y = record { operator = o; left-word = x; right-word = y }
 abbrev pub worked-out : Case → ℕ
 worked-out c = work-diadic (c .operator) (c .left-word) (c .right-word)
 
--- Marked and other cases: "`#80000000 < 1` is -1. `1 << 256` is 0"; then: counts of 31 and 32, sums that wrap, the other orders
-pub starred : map worked-out
-    (case less 0x80000000 1 ∷ case left 1 256 ∷ case left 1 31 ∷ case left 1 32 ∷ case right 0x80000000 31 ∷ case right 5 256 ∷ case plus 0xFFFFFFFF 1 ∷ case minus 0 1 ∷ case times 0x10000 0x10000
+-- counts of 31, 32 and 256, sums that wrap, orders across the sign
+pub edges : map worked-out
+    (case left 1 31 ∷ case left 1 32 ∷ case right 0x80000000 31 ∷ case right 5 256 ∷ case plus 0xFFFFFFFF 1 ∷ case minus 0 1 ∷ case times 0x10000 0x10000
     ∷ case at-most 1 0x80000000 ∷ case greater 1 0x80000000 ∷ case at-least 0x80000000 1 ∷ [])
-    ≡ 0xFFFFFFFF ∷ 0 ∷ 0x80000000 ∷ 0 ∷ 1 ∷ 0 ∷ 0 ∷ 0xFFFFFFFF ∷ 0 ∷ 0 ∷ 0xFFFFFFFF ∷ 0 ∷ []
+    ≡ 0x80000000 ∷ 0 ∷ 1 ∷ 0 ∷ 0 ∷ 0xFFFFFFFF ∷ 0 ∷ 0 ∷ 0xFFFFFFFF ∷ 0 ∷ []
 unfolding shift-left shift-right signed-less
-starred = refl
+edges = refl

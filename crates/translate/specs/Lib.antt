@@ -2,4 +2,3 @@
 pub mod Translate
 pub mod Room
 pub mod Filled
-pub mod Starred
