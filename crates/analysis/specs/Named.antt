@@ -1,19 +1,16 @@
 -- The names of a program that the grammar accepts: the specifications first, then the raw rows. Laws; assumes nothing.
-use mathlib.Core.Path.{_≡_, refl, sym, ap, ap₂, subst, _∙_}
-use mathlib.Core.List.{List, [], _∷_, _++_}
-use Prim.Native.Nat.{ℕ, zero, suc, _+_, _-_, _*_, _≤_, _<_}
+use mathlib.Core.Path.{_≡_, sym, ap, _∙_}
+use mathlib.Core.List.{List, [], _++_}
+use Prim.Native.Nat.{ℕ, _+_, _-_, _*_, _≤_}
 use native.Mathlib.Omega.{arith}
-use lib.Dec.{eqb}
-use lib.ListN.{length, getD, take, drop, length-append, List·getD-append}
+use lib.ListN.{length, take, drop, length-append, List·getD-append}
 use lib.Seq.{sets, sets-eq, length-take-le, getD-append-add}
 use borrow.Author.Tests.{eq-eqb, ne-eqb}
-use Rattle.grammar.specs.Grammar.{Specification, Process, Program, program, text-process, text-specifications, text-program, well-formed, well-formed-process}
+use Rattle.grammar.specs.Grammar.{Specification, Process, Program, program, text-process, text-specifications, text-program, well-formed}
 use Rattle.grammar.specs.Tokens.{unread}
 use Rattle.grammar.specs.Rows as raw
 use Rattle.grammar.specs.RowLaws.{length-process, sets-rows}
 use Rattle.grammar.specs.Depth as grammar-depth
-use Rattle.program.specs.Tree as tree
-use Rattle.program.specs.Tree.{data-words}
 use Rattle.program.specs.Core.{core-process}
 use Rattle.program.specs.Depth.{deepest}
 use Rattle.program.specs.Rows.{declared-rows, rows-process, count-process, table-of, row-count}
@@ -35,11 +32,10 @@ use Rattle.binding.specs.Going.{Filled, Fills}
 use Rattle.binding.specs.declared.Progress.{Progress}
 use Rattle.binding.specs.declared.Progress.the-variants as bound
 use Rattle.reader.specs.Answer.{process-start}
-use Rattle.resolution.specs.Walk.{Walked, walked, walk, walk-entries, walk-rows, scope-of, judged-by, verdict, getD-sets-past}
+use Rattle.resolution.specs.Walk.{Walked, walked, walk, walk-entries, walk-rows, scope-of, verdict, getD-sets-past}
 use Rattle.resolution.specs.declared.Found as walk-found
 use Rattle.names.specs.Specified.{count-declared, words-declared}
-use Rattle.analysis.specs.Analysed.{Found, Analysed}
-use Rattle.analysis.specs.declared.Analysis.the-variants.{Refused, Accepted}
+use Rattle.analysis.specs.Analysed.{Found}
 
 -- what is written is held
 pub holds-set : (t xs : List ℕ) (n : ℕ) → 4 * n + length xs ≤ length t → Holds (sets t (4 * n) xs) n xs

@@ -1,6 +1,6 @@
 -- What the reader's answer says of a source's tokens: 6, 7, or a program whose names come next. Laws; assumes nothing.
-use mathlib.Core.Path.{_≡_, refl, sym, ap, ap₂, subst, _∙_}
-use mathlib.Core.List.{List, []}
+use mathlib.Core.Path.{_≡_, refl, sym, ap, subst, _∙_}
+use mathlib.Core.List.{List}
 use Prim.Native.Nat.{ℕ, _+_, _-_, _*_, _≤_, _<_, max}
 use native.Mathlib.Omega.{arith}
 use lib.Dec.{ltb}
@@ -10,7 +10,7 @@ use borrow.Author.Tests.{lt-ltb, le-ltb}
 use Rattle.word.specs.Choice.{pick}
 use Rattle.token.specs.Tokens as token
 use Rattle.token.specs.Tokens.{Entry, entries}
-use Rattle.grammar.specs.Grammar.{Program, program, text-process, text-program, well-formed}
+use Rattle.grammar.specs.Grammar.{Program, program}
 use Rattle.grammar.specs.Tokens.{unread}
 use Rattle.grammar.specs.Unread.{length-unread}
 use Rattle.grammar.specs.Automaton as automaton
@@ -24,13 +24,13 @@ use Rattle.names.specs.Complaints.{complaints, least}
 use Rattle.names.specs.First.{first}
 use Rattle.names.specs.Resolve as resolve
 use Rattle.front.specs.Front as front
-use Rattle.front.specs.Front.{symbols, text-of, place-of, judged, named, parsed}
+use Rattle.front.specs.Front.{symbols, text-of, judged, named, parsed}
 use Rattle.front.specs.Refused.{least-first-in-text}
 use Rattle.reader.specs.Answer.{answer, Written, process-start}
 use Rattle.reader.specs.declared.Answer.the-variants as read
 use Rattle.recognizer.specs.declared.Recognized.the-variants as recognizer
 use Rattle.recognizer.specs.Recognized.{Says}
-use Rattle.name_table.specs.View.{text-at, place-at}
+use Rattle.name_table.specs.View.{place-at}
 use Rattle.analysis.specs.Arrays.{symbols-all, unread-all, length-entries, place-all, text-all}
 use Rattle.grammar.specs.FewRows.{few-rows}
 use Rattle.analysis.specs.Named.{holds-set, Ready, named-as}

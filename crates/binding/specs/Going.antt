@@ -1,15 +1,14 @@
 -- The walk over the specifications: what is left to declare, from what the arrays hold. Claims and laws; assumes nothing.
 -- Rests on Judge, Here and the name table's view.
-use mathlib.Core.Path.{_≡_, refl, sym, ap, ap₂, subst, _∙_}
+use mathlib.Core.Path.{_≡_, refl, sym, ap, ap₂, _∙_}
 use mathlib.Core.Bool.{Bool, true, false}
 use mathlib.Core.List.{List, [], _∷_, _++_, append-assoc, append-nil}
-use Prim.Native.Nat.{ℕ, suc, _+_, _-_, _*_, _<_, _≤_}
+use Prim.Native.Nat.{ℕ, _+_, _-_, _*_, _<_, _≤_}
 use native.Mathlib.Omega.{arith}
-use native.Mathlib.Numerals.{add-one}
 use lib.Dec.{eqb, ltb}
 use lib.ListN.{length, getD, length-append}
 use lib.Seq.{sets}
-use borrow.Author.Tests.{ltb-false, eqb-true, eqb-false}
+use borrow.Author.Tests.{ltb-false}
 use Rattle.word.specs.Choice.{pick, by-test}
 use Rattle.spelling.specs.Kinds as kind
 use Rattle.grammar.specs.Grammar.{Specification, commented, Process, text-process, text-specifications}
@@ -23,7 +22,7 @@ use Rattle.names.specs.Resolve.{declarations}
 use Rattle.expressions.specs.Parts.{table-one}
 use Rattle.name_table.specs.View.{Table, view, meant, by-sort, text-at, place-at}
 use Rattle.name_table.specs.View as views
-use Rattle.judging.specs.Judge.{verdict-of, or-else, first-append, listed, over, some, constant-read, constant-at, complaints-by, item-of, item-row, specification-at, width, specified-complaints, specified-scope, specified-rows}
+use Rattle.judging.specs.Judge.{verdict-of, or-else, first-append, listed, over, constant-read, constant-at, complaints-by, item-of, item-row, specification-at, width, specified-complaints, specified-scope, specified-rows}
 use Rattle.binding.specs.Here.{specification-here, comment-here, none-left, some-left}
 use Rattle.name_table.specs.declared.Meaning as found
 use Rattle.judging.specs.declared.Verdict as code

@@ -13,19 +13,14 @@ use name_table::number;
 use name_table::stands_for;
 use spelling::kind;
 ghost use mathlib.Core.Path.{_≡_};
-ghost use mathlib.Core.List.{List, [], _∷_, _++_};
-ghost use Prim.Native.Nat.{ℕ, suc, _+_, _-_, _*_, _<_, _≤_};
-ghost use lib.Dec.{ltb, eqb};
-ghost use lib.ListN.{length, getD};
-ghost use Rattle.word.specs.Choice.{pick};
-ghost use Rattle.names.specs.Complaints.{«is-known», «bad-length», when};
-ghost use Rattle.names.specs.First.{first};
-ghost use Rattle.name_table.specs.View.{meant, arrays, «text-at»};
+ghost use mathlib.Core.List.{List, []};
+ghost use Prim.Native.Nat.{ℕ, _+_, _-_, _<_, _≤_};
+ghost use lib.ListN.{length};
+ghost use Rattle.name_table.specs.View.{arrays, «text-at»};
 ghost use Rattle.grammar.specs.Grammar.{Specification, Process, «text-process», «text-specifications»};
 ghost use Rattle.grammar.specs.Tokens.{unread};
-ghost use Rattle.judging.specs.Judge as judging;
 ghost use Rattle.binding.specs.Going.{«scope-of», Puts, Enters, Fills};
-ghost use Rattle.judging.specs.Judge.{«verdict-of», «or-else», listed, over, «constant-by», «complaints-by», «item-of», some, «constant-read», «constant-at»};
+ghost use Rattle.judging.specs.Judge.{«constant-read», «constant-at»};
 
 // The refusal's number and place; or how many names, rows and words are declared.
 pub enum Progress {

@@ -1,8 +1,7 @@
 -- Demands 1, 2 and 3 proved from the layers' theorems. Assumes nothing.
-use mathlib.Core.Path.{_≡_, refl, sym, ap, subst, _∙_}
-use mathlib.Core.Bool.{Bool, true, false}
-use mathlib.Core.List.{List, [], _∷_, _++_}
-use Prim.Native.Nat.{ℕ, zero, suc, _+_, _*_, _-_, _≤_, _<_}
+use mathlib.Core.Path.{_≡_, refl, sym, ap, _∙_}
+use mathlib.Core.List.{List, _++_}
+use Prim.Native.Nat.{ℕ, _+_, _-_, _<_}
 use native.Mathlib.Omega.{arith}
 use lib.ListN.{length, take}
 use lib.Seq.{take-at}
@@ -14,11 +13,11 @@ use Rattle.front.specs.Refused.{accepted-sound}
 use Rattle.rules.specs.Code.{image}
 use Rattle.thumb.specs.Laws.{decode-encode, encode-decode}
 use Rattle.machine.specs.Laws.{step-kept}
-use Rattle.translate.specs.Translate.{Translated, translated, translation, zeros}
+use Rattle.translate.specs.Translate.{translated, translation, zeros}
 use Rattle.translate.specs.Room.{accepted-fits}
 use Rattle.simulate.specs.Statement.{Lent, Demand3}
 use Rattle.simulate.specs.Theorem as simulation
-use Rattle.demands.specs.Statement.{RefusedWhole, Unchanged, Demand1, Translates, XAs, Demand2, Demands}
+use Rattle.demands.specs.Statement.{RefusedWhole, Demand1, Translates, XAs, Demand2, Demands}
 
 -- ── demand 1 ──
 

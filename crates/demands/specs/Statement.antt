@@ -1,8 +1,8 @@
 -- Demands 1, 2 and 3, from source bytes to machine calls: statements alone, over the definitions that the public calls meet by equation.
 -- `translate` meets `translation`; `start`, `step` and `run` meet `startOf`, `stepOf` and `runOf`; `encode` and `decode` meet `encodeOf` and `decodeOf`.
 use mathlib.Core.Path.{_≡_}
-use mathlib.Core.List.{List, []}
-use Prim.Native.Nat.{ℕ, _≤_, _<_}
+use mathlib.Core.List.{List}
+use Prim.Native.Nat.{ℕ, _<_}
 use lib.ListN.{length, take}
 use Rattle.token.specs.Tokens.{Entry}
 use Rattle.grammar.specs.Grammar as grammar

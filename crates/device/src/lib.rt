@@ -2,12 +2,11 @@
 // A slice is a pointer and a length; an array is a pointer to as many words as its type says.
 ghost use mathlib.Core.Path.{_≡_};
 ghost use Rattle.thumb.specs.Code.{encodeOf, decodeOf};
-ghost use Rattle.exec.specs.Exec.{After, Effect};
 ghost use Rattle.machine.specs.Start.{startOf};
 ghost use Rattle.machine.specs.Step.{stepOf};
-ghost use Rattle.machine.specs.Run.{RunAfter, runOf};
+ghost use Rattle.machine.specs.Run.{runOf};
 ghost use lib.ListN.{length};
-ghost use Rattle.translate.specs.Translate.{Translated, translation};
+ghost use Rattle.translate.specs.Translate.{translation};
 ghost use Rattle.device.specs.Numbers as numbers;
 use numbers::decoded_words;
 use numbers::instruction;

@@ -1,8 +1,8 @@
 -- Lines fit, give back address and halfwords, and stand for two or four bytes. Laws; rests on Disassembly.
 -- Assumes nothing.
-use mathlib.Core.Path.{_≡_, refl}
-use mathlib.Core.List.{List, [], _++_}
-use Prim.Native.Nat.{ℕ, _+_, _*_, _≤_, _<_}
+use mathlib.Core.Path.{_≡_}
+use mathlib.Core.List.{[], _++_}
+use Prim.Native.Nat.{ℕ, _+_, _≤_, _<_}
 use native.Mathlib.Omega.{arith}
 use borrow.Author.Tests.{le-ltb}
 use lib.Dec.{ltb}
@@ -16,7 +16,6 @@ use Rattle.thumb.specs.declared.Instr.{Instr}
 use Rattle.thumb.specs.declared.Decoded.{Decoded}
 use Rattle.thumb.specs.declared.Decoded.the-variants.{Known, Unknown}
 use Rattle.thumb.specs.Code.{decodeOf}
-use Rattle.mnemonic.specs.Mnemonic.{instruction}
 use Rattle.mnemonic.specs.Laws.{length-instruction}
 use Rattle.disassembly.specs.Disassembly.{second, after, line, bytes, size}
 

@@ -1,3 +1,4 @@
 -- An instruction as a line of text, and what can be read back from it.
 pub mod Disassembly
 pub mod Laws
+pub mod Listing

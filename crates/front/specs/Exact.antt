@@ -1,27 +1,26 @@
 -- With room a source is accepted exactly if it is X, and what is accepted is a sound program. Statements (IsX) and laws; assumes nothing.
-use mathlib.Core.Path.{_≡_, refl, sym, ap, ap₂, subst, _∙_}
+use mathlib.Core.Path.{_≡_, refl, ap, _∙_}
 use mathlib.Core.Bool.{Bool, true, false}
 use mathlib.Core.List.{List, [], _∷_}
-use Prim.Native.Nat.{ℕ, zero, suc, _+_, _*_, _≤_, _<_, max}
+use Prim.Native.Nat.{ℕ, _+_, _*_, _≤_, max}
 use native.Mathlib.Omega.{arith}
-use lib.Dec.{ltb, eqb}
+use lib.Dec.{ltb}
 use lib.ListN.{length}
-use borrow.Author.Tests.{ltb-true, ltb-false, le-ltb, lt-ltb, eqb-true}
+use borrow.Author.Tests.{ltb-false, le-ltb}
 use Rattle.word.specs.Choice.{pick}
-use Rattle.spelling.specs.Kinds as kind
 use Rattle.token.specs.Tokens as token
 use Rattle.token.specs.Tokens.{Entry}
 use Rattle.grammar.specs.Grammar as grammar
 use Rattle.grammar.specs.Grammar.{text-program, well-formed}
 use Rattle.grammar.specs.Automaton as automaton
 use Rattle.grammar.specs.Automaton.{reads}
-use Rattle.grammar.specs.Exact.{accepts, accepted-text, First, refused-first}
+use Rattle.grammar.specs.Exact.{accepts, accepted-text}
 use Rattle.grammar.specs.Depth.{depth, deepest}
 use Rattle.program.specs.Tree.{Program}
 use Rattle.names.specs.Complaints as names
 use Rattle.names.specs.Complaints.{Complaint, complaints, least, lesser}
 use Rattle.names.specs.Resolve.{resolve}
-use Rattle.front.specs.Front.{Outcome, refused, accepted, place-of, text-of, symbols, unread-place, judged, named, parsed, tokened, front}
+use Rattle.front.specs.Front.{Outcome, refused, accepted, place-of, text-of, symbols, judged, named, parsed, tokened, front}
 
 -- a source that is X: it has tokens, they are the text of a program, within the depth, and nothing is wrong with its names
 pub record IsX (source : List ℕ) (ts : List Entry) (p : grammar.Program) : Type 0 where

@@ -1,36 +1,33 @@
 -- What a refusal says: 6 stands at the first token that no program continues with; 8 to 12 are the least complaint. Laws; assumes nothing.
-use mathlib.Core.Path.{_≡_, refl, sym, ap, subst, _∙_}
+use mathlib.Core.Path.{_≡_, refl, ap, subst, _∙_}
 use mathlib.Core.Bool.{Bool, true, false}
 use mathlib.Core.List.{List, [], _∷_}
-use Prim.Native.Nat.{ℕ, zero, suc, _+_, _*_, _≤_, _<_, max}
+use Prim.Native.Nat.{ℕ, suc, _+_, _*_, _<_}
 use native.Mathlib.Omega.{arith}
-use lib.Dec.{ltb, eqb}
+use lib.Dec.{eqb}
 use lib.ListN.{length}
-use borrow.Author.Tests.{ltb-true, ltb-false, le-ltb, lt-ltb, eqb-true, eqb-false}
+use borrow.Author.Tests.{le-ltb, eqb-true}
 use Rattle.word.specs.Choice.{pick}
 use Rattle.spelling.specs.Kinds as kind
 use Rattle.token.specs.Tokens as token
 use Rattle.token.specs.Tokens.{Entry}
 use Rattle.token.specs.SourceLaws as source-laws
-use Rattle.token.specs.SourceLaws.{Lies, Placed, outcome-sound}
+use Rattle.token.specs.SourceLaws.{Placed, outcome-sound}
 use Rattle.grammar.specs.Grammar as grammar
 use Rattle.grammar.specs.Grammar.{Token, number, name, mark, text-program}
 use Rattle.grammar.specs.Tokens.{token-of}
 use Rattle.grammar.specs.Automaton as automaton
 use Rattle.grammar.specs.Automaton.{reads}
 use Rattle.grammar.specs.Exact.{First, refused-first}
-use Rattle.grammar.specs.Depth.{depth, deepest}
 use Rattle.program.specs.Tree.{Program}
 use Rattle.program.specs.Sound.{Sound}
-use Rattle.names.specs.Complaints as names
 use Rattle.names.specs.Complaints.{complaints, least}
 use Rattle.names.specs.First.{first}
 use Rattle.names.specs.Order.{names-of, Ahead, Ascending, least-is-first}
 use Rattle.names.specs.Accepted.{Words, sound}
 use Rattle.names.specs.Depths.{same-deepest}
-use Rattle.names.specs.Resolve.{resolve}
-use Rattle.front.specs.Front.{Outcome, refused, accepted, entry-at, place-of, text-of, symbols, unread-place, judged, named, parsed, tokened, front}
-use Rattle.front.specs.Exact.{IsX, Room, Accepted, accepted-is-X}
+use Rattle.front.specs.Front.{refused, accepted, entry-at, place-of, text-of, symbols, unread-place, parsed, tokened, front}
+use Rattle.front.specs.Exact.{Room, accepted-is-X}
 
 -- the tokens of a source stand in it, one after another
 placed : (source : List ℕ) (ts : List Entry) → token.outcome source ≡ token.read ts → Placed (length source) 0 ts

@@ -1,6 +1,6 @@
 -- The table of an accepted program can be walked, and what the walk writes is the program's image. Laws; assume nothing.
-use mathlib.Core.Path.{_≡_, refl, sym, ap, _∙_}
-use mathlib.Core.Bool.{Bool, true, false}
+use mathlib.Core.Path.{_≡_, refl, ap, _∙_}
+use mathlib.Core.Bool.{Bool}
 use mathlib.Core.List.{List, [], _∷_, _++_}
 use Prim.Native.Nat.{ℕ, _+_, _-_, _*_, _≤_, _<_}
 use native.Mathlib.Omega.{arith}
@@ -19,7 +19,7 @@ use Rattle.program.specs.ReadBack.{Holds, front, behind, length-rows, some-rows
 use Rattle.rules.specs.Bytes.{bytes, size}
 use Rattle.rules.specs.Code.{image-code, image}
 use Rattle.instructions.specs.Write.{Room, Wrote}
-use Rattle.values.specs.Well.{Declared, Earlier, Names, Well, WellProcess}
+use Rattle.values.specs.Well.{Declared, Earlier, Names, WellProcess}
 
 -- ── rows n to m name what they should, and the kind of row m is from `low` to `high` ──
 pub record Written (low high : ℕ) (t : List ℕ) (n m : ℕ) : Type 0 where

@@ -5,7 +5,7 @@ use Prim.Native.Nat.{ℕ, suc, _≤_}
 use native.Mathlib.Omega.{arith}
 use Rattle.instructions.specs.Write.{Room, Wrote, first, rest, then}
 use Rattle.values.specs.declared.Row.{Row}
-use Rattle.values.specs.Well.{row-in, Earlier, Well, WellProcess, WellSingle}
+use Rattle.values.specs.Well.{row-in, Earlier, WellProcess, WellSingle}
 use Rattle.values.specs.Walk.{process-in, named, sequence-names, sequence-code}
 
 -- Of the process in row r, to be written to l from i on, what is left is row s, to be written to l′ from j on; w is what row s says.

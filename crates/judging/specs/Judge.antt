@@ -3,7 +3,7 @@
 use mathlib.Core.Path.{_≡_, refl, sym, ap, ap₂, _∙_}
 use mathlib.Core.Bool.{Bool, true, false}
 use mathlib.Core.List.{List, [], _∷_, _++_}
-use Prim.Native.Nat.{ℕ, suc, _+_, _≤_}
+use Prim.Native.Nat.{ℕ, _+_, _≤_}
 use native.Mathlib.Omega.{arith}
 use lib.Dec.{eqb, ltb}
 use lib.ListN.{getD}
@@ -14,8 +14,8 @@ use Rattle.grammar.specs.Grammar.{Specification, val}
 use Rattle.grammar.specs.Grammar as grammar
 use Rattle.program.specs.Tree as tree
 use Rattle.program.specs.Rows.{row, declared-rows}
-use Rattle.names.specs.Scope.{Meaning, unknown, variable, array, constant, Entry, Scope, meaning-of, constant-word, declare}
-use Rattle.names.specs.Complaints.{Complaint, Verdict, fine, refused, is-known, as-constant, when, bad-length, too-many, at, of-constant, has-word, of-specification}
+use Rattle.names.specs.Scope.{Meaning, unknown, variable, array, constant, Scope, meaning-of, constant-word, declare}
+use Rattle.names.specs.Complaints.{Complaint, Verdict, fine, refused, is-known, as-constant, when, bad-length, at, of-constant, has-word, of-specification}
 use Rattle.names.specs.First.{first}
 use Rattle.names.specs.Resolve.{declared}
 use Rattle.name_table.specs.View.{meant, by-sort}

@@ -1,6 +1,5 @@
 // The listing program: a source from standard input; its image to standard output, one instruction a line, or the report where it is refused.
-ghost use mathlib.Core.Path.{_≡_};
-ghost use Prim.Native.Nat.{_+_, _≤_, _<_};
+ghost use Prim.Native.Nat.{_+_, _<_};
 use libc::STDIN_FILENO;
 
 // Two bytes, the lower first.

@@ -1,6 +1,6 @@
 -- The working of the operators on words. Definitions.
 use Prim.Native.Nat.{ℕ, _-_}
-use mathlib.Core.Bool.{Bool, not}
+use mathlib.Core.Bool.{not}
 use lib.Dec.{eqb}
 use lib.Bits.{bitAnd, bitOr, bitXor}
 use Rattle.word.specs.Word.{add, sub, mul, complement, shift-left, shift-right, signed-less, truth}

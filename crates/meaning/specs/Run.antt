@@ -1,7 +1,7 @@
 -- The source's run: its state and its moves, one clause a move, in document 01's order. Definitions.
 -- Document 01's to-do list is the continuation here, its pile the operand stack, its access list the trace.
 use Prim.Native.Nat.{ℕ, zero, suc, _+_}
-use mathlib.Core.Bool.{Bool, true, false}
+use mathlib.Core.Bool.{Bool, false}
 use mathlib.Core.List.{List, [], _∷_, _++_}
 use lib.ListN.{getD, set, take}
 use lib.Dec.{ltb, eqb}

@@ -5,7 +5,7 @@ use mathlib.Core.List.{List, [], _∷_, map}
 use Prim.Native.Nat.{ℕ}
 use Rattle.word.specs.Word.{signed-less}
 use Rattle.word.specs.Access.{Access, loaded, stored}
-use Rattle.program.specs.Tree.{plus, less, equal, bit-and, Variable, Array, var, array, Expression, constant, variable, element, diadic, bracket, Process, skip, stop, assign, assign-element, braces, conditional, loop, none, also, Program, words-of, data-words}
+use Rattle.program.specs.Tree.{plus, less, equal, bit-and, Variable, Array, var, array, constant, variable, element, diadic, bracket, Process, skip, stop, assign, assign-element, braces, conditional, loop, none, also, Program, data-words}
 use Rattle.meaning.specs.Run.{End, finish, stopped, bad-subscript, State, begin, moves}
 
 -- var i; var n; var x; array v[2]

@@ -1,9 +1,9 @@
 // The name table: what a name stands for, and a name more.
 ghost use mathlib.Core.Path.{_≡_};
-ghost use Prim.Native.Nat.{ℕ, suc, _+_, _<_, _≤_};
+ghost use Prim.Native.Nat.{ℕ, suc, _+_, _<_};
 ghost use mathlib.Core.List.{List, _∷_};
 ghost use lib.ListN.{length, getD};
-ghost use Rattle.names.specs.Scope.{lookup, same, Entry};
+ghost use Rattle.names.specs.Scope.{lookup, same};
 ghost use Rattle.name_table.specs.View.{meant, view};
 ghost use Rattle.name_table.specs.View as views;
 

@@ -1,8 +1,8 @@
 -- A program without a complaint resolves to a sound one: every variable and array in its tree is one of its declarations, within the limits. Laws; assumes nothing.
-use mathlib.Core.Path.{_≡_, refl, sym, ap, subst, _∙_}
+use mathlib.Core.Path.{_≡_, refl, sym, ap, _∙_}
 use mathlib.Core.Bool.{Bool, true, false}
 use mathlib.Core.List.{List, [], _∷_, _++_, append-assoc, append-nil}
-use Prim.Native.Nat.{ℕ, zero, suc, _+_, _≤_, _<_}
+use Prim.Native.Nat.{ℕ, _+_, _≤_, _<_}
 use native.Mathlib.Omega.{arith}
 use lib.ListN.{length, length-append}
 use lib.Dec.{ltb}
@@ -17,7 +17,7 @@ use Rattle.program.specs.Core.{core-process, core-list, joined}
 use Rattle.program.specs.Depth.{deepest}
 use Rattle.program.specs.Sound.{Declares, here, later, Lengths, SoundExpression, SoundProcess, Sound}
 use Rattle.names.specs.Scope.{Meaning, unknown, variable, array, constant, Entry, Scope, empty-scope, same, lookup, word-of, meaning-of, constant-word, declare, declare-all}
-use Rattle.names.specs.Complaints.{Complaint, as-value, as-target, as-array, as-constant, is-known, when, bad-length, too-many, at, of-constant, has-word, of-array, of-specification, of-specifications, of-expression, of-chain, of-operand, of-process, of-processes, complaints}
+use Rattle.names.specs.Complaints.{as-value, as-target, as-array, as-constant, is-known, when, bad-length, too-many, at, of-constant, has-word, of-array, of-specification, of-specifications, of-expression, of-chain, of-operand, of-process, of-processes, complaints}
 use Rattle.names.specs.Resolve as resolve
 use Rattle.names.specs.Resolve.{value, element-of, assigned, element-assigned, declared, declarations}
 

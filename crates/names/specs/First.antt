@@ -1,13 +1,13 @@
 -- The least complaint is the first one found from left to right, since a program's names stand in the order of their places. Laws; assumes nothing.
-use mathlib.Core.Path.{_≡_, refl, sym, ap, subst, _∙_}
-use mathlib.Core.Bool.{Bool, true, false}
-use mathlib.Core.List.{List, [], _∷_, _++_}
-use Prim.Native.Nat.{ℕ, suc, _≤_, _<_}
+use mathlib.Core.Path.{_≡_, refl}
+use mathlib.Core.Bool.{true, false}
+use mathlib.Core.List.{List, [], _∷_}
+use Prim.Native.Nat.{_≤_}
 use native.Mathlib.Omega.{arith}
 use lib.Dec.{eqb, ltb, leb}
-use borrow.Author.Tests.{lt-ltb, le-ltb, eq-eqb, ne-eqb, le-leb}
+use borrow.Author.Tests.{eq-eqb, le-leb}
 use Rattle.word.specs.Choice.{pick, by-test}
-use Rattle.names.specs.Complaints.{Complaint, earlier, Verdict, fine, refused, lesser, least}
+use Rattle.names.specs.Complaints.{Complaint, earlier, Verdict, fine, refused, least}
 
 -- the first of a list
 abbrev pub first : List Complaint → Verdict

@@ -1,5 +1,5 @@
 -- A program's complaints stand in order, as its names do in the source; so the least is the first. Laws; assumes nothing.
-use mathlib.Core.Path.{_≡_, refl, sym, ap, subst, _∙_}
+use mathlib.Core.Path.{_≡_, refl, ap, _∙_}
 use mathlib.Core.Bool.{Bool, true, false}
 use mathlib.Core.List.{List, [], _∷_, _++_, append-assoc, append-nil}
 use Prim.Native.Nat.{ℕ, suc, _≤_, _<_}
@@ -9,7 +9,7 @@ use Rattle.grammar.specs.Grammar.{Token, number, name, mark, Constant, literal,
 use Rattle.grammar.specs.Grammar as grammar
 use Rattle.names.specs.Scope.{Meaning, unknown, variable, array, constant, Scope, empty-scope, meaning-of, constant-word, declare, declare-all}
 use Rattle.names.specs.Complaints.{Complaint, as-value, as-target, as-array, as-constant, is-known, when, bad-length, too-many, at, of-constant, has-word, twice, of-array, of-specification, of-specifications, of-expression, of-chain, of-operand, of-process, of-processes, complaints, least}
-use Rattle.names.specs.First.{first, Before, BeforeAll, Ordered, least-first}
+use Rattle.names.specs.First.{first, BeforeAll, Ordered, least-first}
 
 -- ── the names of a text, and of each part, in order ──
 

@@ -1,14 +1,13 @@
 -- The resolved program: names replaced by what they stand for. Definitions; rests on the scope.
-use mathlib.Core.Bool.{Bool, true, false}
 use mathlib.Core.List.{List, [], _∷_}
 use Prim.Native.Nat.{ℕ, _-_}
 use lib.Dec.{eqb}
 use Rattle.word.specs.Choice.{pick}
 use Rattle.spelling.specs.Kinds as kind
-use Rattle.grammar.specs.Grammar.{Constant, Specification, val, commented, Expression, single, monadic, diadic, Chain, last, more, Operand, element, bracketed, Process, skip, stop, assign, assign-element, empty, braces, conditional, while, after-comment, Processes, only, followed, Program, program}
+use Rattle.grammar.specs.Grammar.{Specification, val, commented, Expression, single, monadic, diadic, Chain, last, more, Operand, element, bracketed, Process, skip, stop, assign, assign-element, empty, braces, conditional, while, after-comment, Processes, only, followed, Program, program}
 use Rattle.grammar.specs.Grammar as grammar
 use Rattle.program.specs.Tree as tree
-use Rattle.program.specs.Table.{monadic-of, diadic-of}
+use Rattle.program.specs.Table.{diadic-of}
 use Rattle.names.specs.Scope.{Meaning, unknown, variable, array, constant, Scope, empty-scope, meaning-of, constant-word, declare, declare-all}
 
 -- an operator's kind as its number in the syntax table

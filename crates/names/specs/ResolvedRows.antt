@@ -2,23 +2,23 @@
 use mathlib.Core.Path.{_≡_, refl, sym, ap, ap₂, _∙_}
 use mathlib.Core.Bool.{Bool, true, false}
 use mathlib.Core.List.{List, [], _∷_, _++_, append-assoc}
-use Prim.Native.Nat.{ℕ, zero, suc, _+_, _-_, _*_, _≤_, _<_}
+use Prim.Native.Nat.{ℕ, zero, suc, _+_, _-_, _*_, _≤_}
 use native.Mathlib.Omega.{arith}
-use lib.ListN.{length, length-append}
+use lib.ListN.{length}
 use lib.Dec.{eqb, leb}
-use borrow.Author.Tests.{ne-eqb, leb-true, eq-eqb, eqb-true, eqb-false}
-use Rattle.word.specs.Choice.{pick, both, by-test}
+use borrow.Author.Tests.{leb-true}
+use Rattle.word.specs.Choice.{pick, both}
 use Rattle.spelling.specs.Kinds as kind
-use Rattle.grammar.specs.Grammar.{Expression, single, monadic, diadic, Chain, last, more, Operand, element, bracketed, Process, skip, stop, assign, assign-element, empty, braces, conditional, while, after-comment, Processes, only, followed, Program, program, is-monadic, is-diadic, well-formed-expression, well-formed-chain, well-formed-operand, well-formed-process, well-formed-processes}
+use Rattle.grammar.specs.Grammar.{Expression, single, monadic, diadic, Chain, last, more, Operand, element, bracketed, Process, skip, stop, assign, assign-element, empty, braces, conditional, while, after-comment, Processes, only, followed, is-diadic, well-formed-expression, well-formed-chain, well-formed-operand, well-formed-process, well-formed-processes}
 use Rattle.grammar.specs.Grammar as grammar
 use Rattle.grammar.specs.Rows as raw
 use Rattle.grammar.specs.RowLaws.{length-expression, length-chain, length-operand, length-process, length-processes}
 use Rattle.program.specs.Tree as tree
 use Rattle.program.specs.Core.{core, core-process, core-list, joined}
 use Rattle.program.specs.Rows.{monadic-number, diadic-number, row, count, rows, count-process, rows-process}
-use Rattle.program.specs.Table.{monadic-of, diadic-of}
+use Rattle.program.specs.Table.{diadic-of}
 use Rattle.names.specs.Scope.{Meaning, unknown, variable, array, constant, Scope, meaning-of}
-use Rattle.names.specs.Complaints.{Complaint, as-value, as-target, as-array, at, of-expression, of-chain, of-operand, of-process, of-processes}
+use Rattle.names.specs.Complaints.{as-value, as-target, as-array, at, of-expression, of-chain, of-operand, of-process, of-processes}
 use Rattle.names.specs.Resolve as resolve
 use Rattle.names.specs.Resolve.{monadic-operator, diadic-operator, value, element-of, assigned, element-assigned}
 use Rattle.names.specs.Accepted.{none-left, none-right, none-at}

@@ -1,9 +1,7 @@
 -- What names stand for: the scope that specifications make, one after another. Definitions; rests on the grammar's trees.
 -- `text t` is the bytes of token t: a tree gives a name as the number of its token.
-use mathlib.Core.Bool.{Bool, true, false}
 use mathlib.Core.List.{List, [], _∷_}
 use Prim.Native.Nat.{ℕ, _+_}
-use lib.Dec.{eqb}
 use Rattle.word.specs.Choice.{pick}
 pub use Rattle.spelling.specs.Words.{same}
 use Rattle.grammar.specs.Grammar.{Constant, literal, named, Specification, var, val, commented}

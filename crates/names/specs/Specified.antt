@@ -1,7 +1,7 @@
 -- What the specifications declare: as many rows as they make, as many words as their scope counts. Laws; rests on the scope and the declarations.
 use mathlib.Core.Path.{_≡_, refl, ap, _∙_}
 use mathlib.Core.List.{List, [], _∷_}
-use Prim.Native.Nat.{ℕ, suc, _+_}
+use Prim.Native.Nat.{ℕ, _+_}
 use native.Mathlib.Omega.{arith}
 use lib.ListN.{length}
 use Rattle.grammar.specs.Grammar.{Specification, var, array, val, commented}

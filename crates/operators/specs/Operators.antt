@@ -1,9 +1,6 @@
 -- An operator's number that is none of the first thirteen stands for the last diadic operator. Laws; assume nothing.
-use mathlib.Core.Path.{_≡_, refl}
-use mathlib.Core.Bool.{Bool, false}
-use Prim.Native.Nat.{ℕ, zero, suc, _≤_, _<_}
-use native.Mathlib.Omega.{arith}
-use lib.Dec.{eqb}
+use mathlib.Core.Path.{_≡_}
+use Prim.Native.Nat.{ℕ, zero, suc}
 use borrow.Author.Tests.{ne-eqb}
 use Rattle.program.specs.Tree.{at-least}
 use Rattle.program.specs.Table.{diadic-of}

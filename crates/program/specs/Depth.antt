@@ -1,6 +1,6 @@
 -- Depth of a resolved program. Definitions.
 use Prim.Native.Nat.{ℕ, suc, max}
-use Rattle.program.specs.Tree.{Expression, constant, variable, element, monadic, diadic, bracket, Process, skip, stop, assign, assign-element, braces, conditional, loop, Processes, none, also, Program}
+use Rattle.program.specs.Tree.{Expression, constant, variable, element, monadic, diadic, bracket, Process, skip, stop, assign, assign-element, braces, conditional, loop, Processes, none, also}
 
 -- Limits and refusals: "Depth: a constant or name is 1; brackets, a subscript, a monadic or a diadic operation add 1 to the deepest part"
 abbrev pub depth : Expression → ℕ

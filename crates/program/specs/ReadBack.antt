@@ -1,7 +1,7 @@
 -- The tree can be read back from its rows: a table that holds a program's rows has, in its last row, the program's core. Laws; assumes nothing.
-use mathlib.Core.Path.{_≡_, refl, sym, ap, ap₂, _∙_}
+use mathlib.Core.Path.{_≡_, refl, ap, ap₂, _∙_}
 use mathlib.Core.List.{List, [], _∷_, _++_}
-use Prim.Native.Nat.{ℕ, zero, suc, _+_, _-_, _*_, _≤_, _<_}
+use Prim.Native.Nat.{ℕ, suc, _+_, _-_, _*_, _<_}
 use native.Mathlib.Omega.{arith}
 use lib.ListN.{length, getD, length-append, List·getD-append}
 use lib.Seq.{getD-append-add}
@@ -9,7 +9,7 @@ use Rattle.program.specs.Tree.{Monadic, negate, invert, Diadic, plus, mi
 use Rattle.program.specs.Core.{Expression, constant, variable, element, monadic, diadic, Process, skip, stop, assign, assign-element, sequence, conditional, loop, core-process}
 use Rattle.program.specs.Rows.{monadic-number, diadic-number, row, count, rows, count-process, rows-process, row-of, declared-rows, table-of, row-count}
 use Rattle.program.specs.Table.{word, monadic-of, diadic-of, variable-in, array-in, expression-at, process-at, at-constant, at-variable, at-element, at-monadic, at-diadic, at-skip, at-stop, at-assign, at-assign-element, at-sequence, at-conditional, at-loop}
-use Rattle.program.specs.Sound.{Declares, here, later, IsVariable, IsArray, SoundExpression, SoundProcess, Sound, declared-row}
+use Rattle.program.specs.Sound.{Declares, here, later, IsVariable, IsArray, SoundExpression, SoundProcess, Sound}
 
 -- ── lengths ──
 

@@ -1,12 +1,11 @@
 -- A sound program's tree is resolved: its variables and arrays are words that were declared so. Laws; assumes nothing.
-use mathlib.Core.Path.{_≡_, refl, sym, ap, _∙_}
-use mathlib.Core.Bool.{true, false}
-use mathlib.Core.List.{List, [], _∷_}
-use Prim.Native.Nat.{ℕ, suc, _+_, _≤_, _<_}
+use mathlib.Core.Path.{_≡_}
+use mathlib.Core.List.{List}
+use Prim.Native.Nat.{_+_}
 use native.Mathlib.Omega.{arith}
-use Rattle.program.specs.Tree.{Variable, Array, Declaration, var, array, Program, data-words, array-word, Expression, constant, variable, element, monadic, diadic, bracket, Process, skip, stop, assign, assign-element, braces, conditional, loop, Processes, none, also}
+use Rattle.program.specs.Tree.{Variable, Array, Declaration, Program, Expression, constant, variable, element, monadic, diadic, bracket, Process, skip, stop, assign, assign-element, braces, conditional, loop, Processes, none, also}
 use Rattle.program.specs.Core.{core, core-process, core-list, joined}
-use Rattle.program.specs.Sound.{Declares, IsVariable, IsArray, Lengths, SoundExpression, SoundProcess, Sound, declared-inside, declared-array, length-of}
+use Rattle.program.specs.Sound.{IsVariable, IsArray, Lengths, SoundExpression, SoundProcess, Sound, declared-inside, declared-array, length-of}
 use Rattle.program.specs.Resolved.{DeclaredVariable, DeclaredArray, Resolved, ResolvedProcess, ResolvedAll}
 
 module _ (ds : List Declaration) (lengths : Lengths ds) where

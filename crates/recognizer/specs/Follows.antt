@@ -1,9 +1,9 @@
 -- The pushdown automaton makes the moves of the grammar's automaton. Laws; assume nothing.
-use mathlib.Core.Path.{_≡_, refl, sym, ap, subst, _∙_}
+use mathlib.Core.Path.{_≡_, refl, sym, subst, _∙_}
 use mathlib.Core.Bool.{Bool, true, false}
 use mathlib.Core.List.{List, [], _∷_}
 use mathlib.Core.Logic.{_⊎_, inl, inr}
-use Prim.Native.Nat.{ℕ, zero, suc, _+_, _-_, _<_, _≤_}
+use Prim.Native.Nat.{ℕ, zero, suc, _+_, _-_, _<_}
 use native.Mathlib.Omega.{arith}
 use lib.Dec.{eqb, leb}
 use lib.ListN.{length}
@@ -11,12 +11,12 @@ use borrow.Author.Tests.{ne-eqb, eqb-true, leb-true}
 use Rattle.word.specs.Choice.{pick, both, either, by-test}
 use Rattle.spelling.specs.Kinds as kind
 use Rattle.grammar.specs.Grammar.{Token, number, name, mark, Process, Expression, Operand, Specification, last, is-monadic, is-diadic, is-associative}
-use Rattle.grammar.specs.Automaton.{ProcessContext, top, in-braces, in-then, in-else, in-body, in-comment, ListContext, opened, also, ExpressionContext, in-assign, in-target, in-assign-element, in-if, in-while, in-brackets, in-subscript, OperandContext, first, under, next, ChainContext, after, link, chain-base, chain-built, list-base, Partial, var-read, array-read, array-named, array-opened, array-sized, val-read, val-named, val-equated, whole, State, at-front, specifying, need-process, brace-opened, target, target-element, have-process, need-expression, need-operand, name-read, have-operand, have-expression, Move, go, none, is, kind-of, in-comments, goes-on, step-have-process, step-have-expression, step-have-operand, step-operand, step-expression, step-process, step-partial, step-front, step, Reading, accepted, refused, final-process, final-expression, final-operand, final}
+use Rattle.grammar.specs.Automaton.{ProcessContext, top, in-braces, in-then, in-else, in-body, in-comment, ListContext, opened, also, ExpressionContext, in-assign, in-target, in-assign-element, in-if, in-while, in-brackets, in-subscript, OperandContext, first, under, next, ChainContext, after, link, chain-base, chain-built, list-base, Partial, var-read, array-read, array-named, array-opened, array-sized, val-read, val-named, val-equated, whole, State, at-front, specifying, need-process, brace-opened, target, target-element, have-process, need-expression, need-operand, name-read, have-operand, have-expression, Move, go, none, is, in-comments, goes-on, step-have-process, step-have-expression, step-have-operand, step-operand, step-expression, step-process, step-partial, step, Reading, accepted, refused, final-process, final-expression, final-operand, final}
 use Rattle.grammar.specs.Tokens.{token-of}
 use Rattle.grammar.specs.Unread.{token-case, at-is}
 use Rattle.recognizer.specs.declared.Frame.{Frame}
 use Rattle.recognizer.specs.declared.Action.{Action}
-use Rattle.recognizer.specs.Pushdown.{frame, then-open, braces-open, target-open, if-open, while-open, brackets-open, subscript-open, Configuration, at, deeper, level-process, level-list, level-expression, level-operand, level-chain, operator-before, frames-process, frames-list, frames-expression, frames-operand, frames-chain, mode-partial, configuration, stay, leave, enter, choose, refuse, expect, after-process, after-expression, links, after-operand, start-operand, start-expression, start-process, specify, start-program, after-target, in-process, in-expression, decide, innermost, push, pop, act, doing, advance, complete}
+use Rattle.recognizer.specs.Pushdown.{frame, braces-open, at, deeper, level-process, level-list, level-expression, level-operand, level-chain, operator-before, frames-process, frames-list, frames-expression, frames-operand, frames-chain, mode-partial, configuration, after-process, after-expression, links, after-operand, start-operand, start-expression, start-process, specify, innermost, act, doing, complete}
 
 -- an action is the automaton's move, where the stack is s
 abbrev pub Agrees : Move → Action → List Frame → Type 0

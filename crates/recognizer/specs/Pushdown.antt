@@ -1,6 +1,5 @@
 -- The grammar's automaton without its trees: a pushdown automaton, whose stack has a frame for each part that a closing token must end. Definitions.
 -- A level counts what the hole of a tree stands in, as depth does, and stops at 32. Rests on the kinds of tokens and the automaton's states.
-use mathlib.Core.Path.{_≡_}
 use mathlib.Core.Bool.{Bool, true, false}
 use mathlib.Core.List.{List, [], _∷_}
 use Prim.Native.Nat.{ℕ, zero, suc, _+_, _-_, _*_}
@@ -9,7 +8,7 @@ use lib.ListN.{length, getD}
 use Rattle.word.specs.Choice.{pick}
 use Rattle.spelling.specs.Kinds as kind
 use Rattle.grammar.specs.Grammar.{is-monadic, is-diadic, is-associative}
-use Rattle.grammar.specs.Automaton.{ProcessContext, top, in-braces, in-then, in-else, in-body, in-comment, ListContext, opened, also, ExpressionContext, in-assign, in-target, in-assign-element, in-if, in-while, in-brackets, in-subscript, OperandContext, first, under, next, ChainContext, after, link, Partial, var-read, array-read, array-named, array-opened, array-sized, val-read, val-named, val-equated, whole, State, at-front, specifying, need-process, brace-opened, target, target-element, have-process, need-expression, need-operand, name-read, have-operand, have-expression, Move, go, none}
+use Rattle.grammar.specs.Automaton.{ProcessContext, top, in-braces, in-then, in-else, in-body, in-comment, ListContext, opened, also, ExpressionContext, in-assign, in-target, in-assign-element, in-if, in-while, in-brackets, in-subscript, OperandContext, first, under, next, ChainContext, after, link, Partial, var-read, array-read, array-named, array-opened, array-sized, val-read, val-named, val-equated, whole, State, at-front, specifying, need-process, brace-opened, target, target-element, have-process, need-expression, need-operand, name-read, have-operand, have-expression}
 use Rattle.recognizer.specs.declared.Frame.{Frame}
 use Rattle.recognizer.specs.declared.Action.{Action}
 

@@ -2,21 +2,20 @@
 use mathlib.Core.Path.{_≡_, refl, sym, ap, subst, _∙_}
 use mathlib.Core.Bool.{Bool, true, false}
 use mathlib.Core.List.{List, [], _∷_}
-use Prim.Native.Nat.{ℕ, suc, _+_, _-_, _<_, _≤_, max}
+use Prim.Native.Nat.{ℕ, _+_, _-_, _<_, _≤_, max}
 use native.Mathlib.Omega.{arith}
 use lib.Dec.{eqb}
 use lib.ListN.{length, getD}
-use borrow.Author.Tests.{eqb-true, eqb-false}
+use borrow.Author.Tests.{eqb-true}
 use Rattle.word.specs.Choice.{pick, by-test}
 use Rattle.grammar.specs.Grammar.{Token, Program}
 use Rattle.grammar.specs.Automaton.{Partial, var-read, array-read, array-named, array-opened, array-sized, val-read, val-named, val-equated, whole, State, at-front, specifying, need-process, brace-opened, target, target-element, have-process, need-expression, need-operand, name-read, have-operand, have-expression, Move, go, none, step, Reading, accepted, refused, final, onward, run, reads}
 use Rattle.grammar.specs.Tokens.{token-of, unread}
 use Rattle.grammar.specs.Unread.{unread-cons, unread-end, length-unread}
 use Rattle.grammar.specs.Depth.{depth, deepest}
-use Rattle.recognizer.specs.declared.Control.{Control}
 use Rattle.recognizer.specs.declared.Recognized.{Recognized}
 use Rattle.recognizer.specs.declared.Recognized.the-variants as answer
-use Rattle.recognizer.specs.Pushdown.{Configuration, at, configuration, mode-partial, advance, doing, act, complete, ends-at, sinks}
+use Rattle.recognizer.specs.Pushdown.{Configuration, at, configuration, mode-partial, advance, doing, complete, sinks}
 use Rattle.recognizer.specs.Follows.{Agrees, follows, Ends, finishes}
 use Rattle.recognizer.specs.Nested.{Deep, deep-there, deep-on}
 

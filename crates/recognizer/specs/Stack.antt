@@ -1,22 +1,20 @@
 -- The stack in the working table: a frame is a row. Definitions and laws; assume nothing.
-use mathlib.Core.Path.{_≡_, refl, sym, ap, subst, _∙_}
+use mathlib.Core.Path.{_≡_, refl, ap, _∙_}
 use mathlib.Core.Bool.{Bool, true, false}
 use mathlib.Core.List.{List, [], _∷_}
 use Prim.Native.Nat.{ℕ, zero, suc, _+_, _-_, _*_, _<_, _≤_}
 use native.Mathlib.Omega.{arith}
 use native.Mathlib.Numerals.{add-one}
-use lib.Dec.{eqb, leb}
+use lib.Dec.{eqb}
 use lib.ListN.{length, getD}
 use lib.ListN.{set, length-set}
 use lib.Seq.{sets, length-sets, getD-set-same, getD-set-other}
-use borrow.Author.Tests.{ne-eqb, eq-eqb, le-leb, lt-leb}
-use Rattle.word.specs.Choice.{pick}
-use Rattle.grammar.specs.Grammar.{is-associative}
+use borrow.Author.Tests.{ne-eqb, le-leb, lt-leb}
 use Rattle.grammar.specs.Rows.{row}
 use Rattle.recognizer.specs.declared.Frame.{Frame}
 use Rattle.recognizer.specs.declared.Action.{Action}
 use Rattle.recognizer.specs.declared.Control.{Control}
-use Rattle.recognizer.specs.Pushdown.{frame, Configuration, at, frames, innermost, pop, push, act, popped, links}
+use Rattle.recognizer.specs.Pushdown.{frame, Configuration, at, frames, pop, act, popped, links}
 
 -- the configuration that the control and the table are
 abbrev pub viewed : List ℕ → Control → Configuration

@@ -1,7 +1,7 @@
 -- The walk over the raw rows of a table: each is resolved where it stands, and the least complaint so far is kept. Definitions and laws; assumes nothing.
 use mathlib.Core.Path.{_≡_, refl, sym, ap, ap₂, _∙_}
 use mathlib.Core.Bool.{Bool, true, false}
-use mathlib.Core.List.{List, [], _∷_, _++_}
+use mathlib.Core.List.{List, [], _∷_}
 use Prim.Native.Nat.{ℕ, zero, suc, _+_, _-_, _*_, _≤_, _<_}
 use native.Mathlib.Omega.{arith}
 use lib.ListN.{length, getD, set, take, drop}
@@ -14,9 +14,9 @@ use Rattle.program.specs.Rows.{row}
 use Rattle.program.specs.Table.{word}
 use Rattle.program.specs.ReadBack.{Holds}
 use Rattle.names.specs.Scope.{Meaning, unknown, variable, array, constant, Entry, Scope, lookup, word-of, meaning-of}
-use Rattle.names.specs.Complaints.{Complaint, as-value, as-target, as-array, at, Verdict, fine, refused, lesser, least}
-use Rattle.names.specs.RowComplaints.{lesser-of, lesser-of-comm, lesser-of-assoc, least-append, numbers-of, row-complaint, row-complaints}
-use Rattle.names.specs.ResolvedRows.{declared-row, value-row, names-one, resolve-row, resolve-rows}
+use Rattle.names.specs.Complaints.{as-value, as-target, as-array, at, Verdict, fine, refused, least}
+use Rattle.names.specs.RowComplaints.{lesser-of, lesser-of-comm, lesser-of-assoc, least-append, numbers-of, row-complaints}
+use Rattle.names.specs.ResolvedRows.{declared-row, value-row, names-one, resolve-rows}
 use Rattle.name_table.specs.View.{text-at, place-at}
 use Rattle.resolution.specs.declared.Found.{Found}
 

@@ -1,7 +1,7 @@
 // Resolves the raw rows in place, and keeps the least complaint about the names in them.
 ghost use mathlib.Core.Path.{_≡_};
-ghost use Prim.Native.Nat.{ℕ, _+_, _-_, _*_, _<_, _≤_};
-ghost use lib.ListN.{length, getD};
+ghost use Prim.Native.Nat.{_+_, _-_, _*_, _<_, _≤_};
+ghost use lib.ListN.{getD};
 ghost use lib.Seq.{sets};
 ghost use Rattle.name_table.specs.View.{meant, view, arrays, «text-at», «place-at»};
 ghost use Rattle.names.specs.RowComplaints.{«lesser-of»};

@@ -1,18 +1,17 @@
 -- Laws of lines: what is added in parts is added whole, a word's digits are ten at most, and numbers come back from their digits.
 -- Rests on Text; assumes nothing.
 use mathlib.Core.Path.{_≡_, refl, sym, ap, _∙_}
-use mathlib.Core.Bool.{Bool, true, false}
 use mathlib.Core.List.{List, [], _∷_, _++_, append-assoc, append-nil}
-use Prim.Native.Nat.{ℕ, zero, suc, _+_, _*_, _-_, _/_, _%_, _^_, _≤_, _<_}
+use Prim.Native.Nat.{ℕ, zero, suc, _+_, _-_, _/_, _%_, _^_, _≤_, _<_}
 use native.Mathlib.Omega.{arith, pow-step}
 use native.Mathlib.Numerals.{add-one}
 use borrow.Author.Tests.{ltb-true, ltb-false}
 use lib.ListN.{length, take, set, length-append, length-take}
-use lib.Seq.{take-all, take-append-le, take-suc-set, take-take}
-use lib.Dec.{ltb, lit<}
+use lib.Seq.{take-all, take-append-le, take-suc-set}
+use lib.Dec.{ltb}
 use Rattle.word.specs.Choice.{pick, by-test}
 use Rattle.text.specs.Ascii.{ascii}
-use Rattle.text.specs.Text.{fitted, digit, hexadecimal, digits, decimal, entry, summary}
+use Rattle.text.specs.Text.{fitted, digit, digits, decimal, entry, summary}
 
 -- what was cut off before is cut off after
 pub fitted-then : (xs ys : List ℕ) → fitted (fitted xs ++ ys) ≡ fitted (xs ++ ys)

@@ -1,19 +1,19 @@
 -- What every lexeme has: its bytes stand in the source, its kind and value go together. The claim, and its proof.
 -- Rests on Lexemes and Runs.
-use mathlib.Core.Path.{_≡_, refl, sym, ap, subst, _∙_}
+use mathlib.Core.Path.{_≡_, refl, ap, _∙_}
 use mathlib.Core.Bool.{Bool, true, false}
 use mathlib.Core.List.{List, [], _∷_}
-use Prim.Native.Nat.{ℕ, zero, suc, _+_, _-_, _*_, _<_, _≤_}
+use Prim.Native.Nat.{ℕ, suc, _+_, _-_, _*_, _<_, _≤_}
 use native.Mathlib.Omega.{arith}
 use lib.Dec.{eqb, leb, ltb}
 use lib.Seq.{length-take-le}
-use lib.ListN.{length, getD, take, drop, length-drop, length-take, List·getD-eq-default}
+use lib.ListN.{length, getD, take, List·getD-eq-default}
 use mathlib.Core.Logic.{⊎-elim}
-use borrow.Author.Tests.{lt-ltb, eq-eqb, ne-eqb, eqb-true, eqb-false, leb-true, leb-false, ltb-true, ltb-false}
+use borrow.Author.Tests.{lt-ltb, eq-eqb, eqb-true, eqb-false, leb-true, ltb-true, ltb-false}
 use Rattle.word.specs.Choice.{pick, by-test, both, either}
 use Rattle.spelling.specs.Kinds as kinds
-use Rattle.spelling.specs.Characters.{one-of, character, within, letter, digit, digit-value, name-character, literal-character, in-class, span, numeral, separator}
-use Rattle.spelling.specs.Words.{word, middle-word, late-word, same}
+use Rattle.spelling.specs.Characters.{one-of, character, within, letter, digit, digit-value, name-character, literal-character, span, numeral, separator}
+use Rattle.spelling.specs.Words.{word, middle-word, late-word}
 use Rattle.token.specs.Lexemes.{at, spelled, named, number, escape-value, closed, hexadecimal-escape, escape, byte-literal, comment, single, double, symbol, lexeme}
 use Rattle.spelling.specs.Runs.{span-length}
 use Rattle.spelling.specs.declared.Class.the-variants.{Name, Comment, Digit}

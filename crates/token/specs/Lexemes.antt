@@ -1,9 +1,8 @@
 -- What stands at the front of a byte string. Definitions, in the order of "The X that we take", "Tokens, longest first".
 -- Rests on Characters, Words and Kinds.
-use mathlib.Core.Bool.{Bool, true, false}
-use mathlib.Core.List.{List, [], _∷_}
+use mathlib.Core.List.{List}
 use Prim.Native.Nat.{ℕ, _+_, _*_}
-use lib.Dec.{eqb, leb, ltb}
+use lib.Dec.{eqb, leb}
 use lib.ListN.{getD, take, drop}
 use Rattle.word.specs.Choice.{pick}
 use Rattle.spelling.specs.Kinds as kinds

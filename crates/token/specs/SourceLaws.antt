@@ -1,13 +1,13 @@
 -- What later passes rest on: each token of a source lies in it, kinds and values go together, places ascend; what a refusal's number and place can be.
 -- Claims and laws. Rests on Tokens and LexemeLaws.
-use mathlib.Core.Path.{_≡_, refl, sym, ap, subst, _∙_}
+use mathlib.Core.Path.{_≡_, sym, subst}
 use mathlib.Core.Bool.{Bool, true, false}
 use mathlib.Core.List.{List, [], _∷_}
 use Prim.Native.Nat.{ℕ, zero, suc, _+_, _-_, _<_, _≤_}
 use native.Mathlib.Omega.{arith}
 use lib.Dec.{eqb, leb, ltb}
 use lib.ListN.{length, getD}
-use borrow.Author.Tests.{eq-eqb, ne-eqb, eqb-true, eqb-false, leb-true, leb-false, ltb-true}
+use borrow.Author.Tests.{ne-eqb, eqb-true, eqb-false, leb-true, ltb-true}
 use Rattle.word.specs.Choice.{pick, by-test, both}
 use Rattle.spelling.specs.Kinds as kinds
 use Rattle.token.specs.Lexemes.{lexeme}

@@ -1,21 +1,17 @@
 -- The token list, token by token: the loop's steps; and what later passes rest on: each token lies in the source, places ascend. Laws.
 -- Rests on Tokens and LexemeLaws.
 use mathlib.Core.Path.{_≡_, refl, sym, ap, subst, _∙_}
-use mathlib.Core.Bool.{Bool, true, false}
 use mathlib.Core.List.{List, [], _∷_, _++_}
 use Prim.Native.Nat.{ℕ, zero, suc, _+_, _-_, _<_, _≤_}
 use native.Mathlib.Omega.{arith}
 use native.Mathlib.Numerals.{add-one}
-use lib.Dec.{eqb, leb, ltb}
 use lib.ListN.{length, getD, drop, set, drop-of-length-le, length-drop}
 use lib.Seq.{drop-drop, drop-nil, getD-set-same, getD-set-other}
-use borrow.Author.Tests.{le-leb, lt-leb, eqb-true, leb-true}
-use Rattle.word.specs.Choice.{pick, by-test}
-use Rattle.spelling.specs.Kinds as kinds
+use borrow.Author.Tests.{le-leb, lt-leb}
 use Rattle.token.specs.Lexemes.{lexeme}
 use Rattle.token.specs.Tokens.{Entry, Outcome, read, refused, also, taken, scan, outcome, entries}
 use Rattle.spelling.specs.Runs.{drop-one}
-use Rattle.token.specs.LexemeLaws.{known, matched, Fits, Good, lexeme-good}
+use Rattle.token.specs.LexemeLaws.{Fits, Good, lexeme-good}
 use Rattle.token.specs.declared.Lexeme.{Lexeme}
 use Rattle.token.specs.declared.Lexeme.the-variants.{Separator, Token, Broken}
 

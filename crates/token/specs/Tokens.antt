@@ -1,6 +1,5 @@
 -- The token list of a source, or the refusal among 1 to 5. Definitions.
 -- Rests on Lexemes.
-use mathlib.Core.Bool.{Bool, true, false}
 use mathlib.Core.List.{List, [], _∷_}
 use Prim.Native.Nat.{ℕ, zero, suc, _+_, _-_, _≤_}
 use lib.Dec.{leb}

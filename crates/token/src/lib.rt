@@ -4,7 +4,6 @@ ghost use Prim.Native.Nat.{_<_, _≤_};
 ghost use lib.ListN.{length, drop};
 ghost use Rattle.token.specs.Lexemes as lexemes;
 ghost use Rattle.token.specs.Tokens.{outcome, answer, Few};
-ghost use Rattle.spelling.specs.Characters.{separator};
 use spelling::Class;
 use spelling::byte;
 use spelling::digit_value;

@@ -1,9 +1,9 @@
 -- How the lent buffers are filled from the rows and the image of an accepted program. Laws; assumes nothing.
-use mathlib.Core.Path.{_≡_, refl, sym, ap, ap₂, _∙_}
-use mathlib.Core.List.{List, [], _∷_, _++_}
+use mathlib.Core.Path.{_≡_, refl, sym, ap, _∙_}
+use mathlib.Core.List.{List, _++_}
 use Prim.Native.Nat.{ℕ, _+_, _-_, _*_, _≤_, _<_}
 use native.Mathlib.Omega.{arith}
-use lib.ListN.{length, getD, take, drop, replicate, length-append, length-drop}
+use lib.ListN.{length, take, drop, replicate, length-append, length-drop}
 use lib.Seq.{getD-take, length-take-le, ext-getD, take-at}
 use Rattle.program.specs.Tree.{Program, data-words}
 use Rattle.program.specs.Depth.{deepest}
@@ -17,7 +17,6 @@ use Rattle.analysis.specs.Analysed.{Found}
 use Rattle.translate.specs.Translate.{Translated, left, translated, translation, zeros, filled}
 use Rattle.rules.specs.Code.{image}
 use Rattle.translate.specs.Room.{Fits, accepted-fits}
-use Rattle.translate.specs.declared.Translation.{Translation}
 
 -- the first words of a table that holds rows are the rows
 held : (t xs : List ℕ) (n : ℕ) → length xs ≡ n → n ≤ length t → Holds t 0 xs → take n t ≡ xs

@@ -1,11 +1,11 @@
 -- An accepted program's table and image fit the room that its tokens ask for. Laws; assumes nothing.
-use mathlib.Core.Path.{_≡_, refl, sym, ap, subst, _∙_}
-use mathlib.Core.List.{List, [], _∷_, _++_}
-use Prim.Native.Nat.{ℕ, zero, suc, _+_, _*_, _-_, _≤_, _<_}
+use mathlib.Core.Path.{_≡_, refl, sym, ap, _∙_}
+use mathlib.Core.List.{List, [], _∷_}
+use Prim.Native.Nat.{ℕ, suc, _+_, _*_, _-_, _≤_}
 use native.Mathlib.Omega.{arith}
 use lib.ListN.{length}
 use Rattle.token.specs.Tokens.{Entry}
-use Rattle.grammar.specs.Grammar.{Token, number, name, mark, Constant, literal, named, Specification, val, commented, Expression, single, monadic, diadic, Chain, last, more, Operand, element, bracketed, Process, skip, stop, assign, assign-element, empty, braces, conditional, while, after-comment, Processes, only, followed, Program, program, text-expression, text-chain, text-operand, text-process, text-processes, text-constant, text-specification, text-specifications, text-program}
+use Rattle.grammar.specs.Grammar.{Token, mark, Expression, single, monadic, diadic, Chain, last, more, Operand, element, bracketed, Process, skip, stop, assign, assign-element, empty, braces, conditional, while, after-comment, Processes, only, followed, Program, program, text-expression, text-chain, text-operand, text-process, text-processes, text-program}
 use Rattle.grammar.specs.Grammar as grammar
 use Rattle.program.specs.Tree as tree
 use Rattle.grammar.specs.FewRows.{few-P, few-Ss}
@@ -18,7 +18,7 @@ use Rattle.rules.specs.Code.{image}
 use Rattle.names.specs.Complaints.{of-specifications, complaints}
 use Rattle.names.specs.Accepted.{none-right}
 use Rattle.names.specs.ResolvedRows.{count-P}
-use Rattle.names.specs.Scope.{Meaning, unknown, variable, array, constant, Scope, empty-scope, meaning-of, declare, declare-all}
+use Rattle.names.specs.Scope.{Meaning, unknown, variable, array, constant, Scope, empty-scope, meaning-of, declare-all}
 use Rattle.names.specs.Specified.{count-declared}
 use Rattle.names.specs.Resolve as resolve
 use Rattle.names.specs.Resolve.{value, element-of, assigned, element-assigned}

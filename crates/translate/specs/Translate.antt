@@ -1,8 +1,8 @@
 -- What the translation of a source answers and leaves in the two lent buffers. Definitions; rests on the front end and the rules.
-use mathlib.Core.List.{List, [], _∷_, _++_}
+use mathlib.Core.List.{List, _++_}
 use Prim.Native.Nat.{ℕ, _-_}
 use lib.ListN.{length, replicate}
-use Rattle.program.specs.Tree.{Program, data-words}
+use Rattle.program.specs.Tree.{data-words}
 use Rattle.program.specs.Depth.{deepest}
 use Rattle.program.specs.Rows.{table-of, row-count}
 use Rattle.front.specs.Front.{Outcome, refused, accepted, front}

@@ -4,6 +4,7 @@ use std::io::Write;
 
 mod boundary;
 mod cases;
+mod documents;
 mod front;
 mod machine;
 mod runs;

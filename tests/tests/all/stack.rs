@@ -10,8 +10,16 @@ fn nested(before: &str, core: &str, after: &str, depth: usize) -> String {
 }
 
 /// The forms in which an expression, and in which a process, holds another.
-const EXPRESSIONS: [(&str, &str); 8] =
-    [("(", ")"), ("v[", "]"), ("-(", ")"), ("1+(", ")"), ("(", ")+1"), ("1+2+(", ")"), ("1-v[", "]"), ("1+", "")];
+const EXPRESSIONS: [(&str, &str); 8] = [
+    ("(", ")"),
+    ("v[", "]"),
+    ("-(", ")"),
+    ("1+(", ")"),
+    ("(", ")+1"),
+    ("1+2+(", ")"),
+    ("1-v[", "]"),
+    ("1+", ""),
+];
 const PROCESSES: [(&str, &str); 8] = [
     ("{", "}"),
     ("{skip;", "}"),
@@ -30,7 +38,11 @@ fn sources() -> Vec<Vec<u8>> {
             // the deepest that is accepted lies between these
             for depth in [1, 10, 14, 15, 16, 20, 30, 31, 32, 33] {
                 let inner = nested(open, "1", close, depth);
-                for process in [format!("x := {inner}"), format!("v[{inner}] := {inner}"), format!("while {inner} do skip")] {
+                for process in [
+                    format!("x := {inner}"),
+                    format!("v[{inner}] := {inner}"),
+                    format!("while {inner} do skip"),
+                ] {
                     for levels in [1, 15, 16, 30, 31, 32] {
                         sources.push(format!("var x; array v[2]; {}", nested(begin, &process, end, levels)));
                     }
@@ -68,7 +80,9 @@ fn every_source_takes_bounded_stack() {
     }
     let taken = stack::taken(&sources);
     let (most, worst) = taken.iter().zip(&sources).max().expect("sources");
-    let status = |source: &Vec<u8>| device::translate(source, &mut vec![0; TABLE_WORDS], &mut vec![0; CODE_BYTES]).status;
+    let status = |source: &Vec<u8>| {
+        device::translate(source, &mut vec![0; TABLE_WORDS], &mut vec![0; CODE_BYTES]).status
+    };
     let accepted = taken.iter().zip(&sources).filter(|(_, s)| status(s) == 0).map(|(n, _)| *n).max();
     let least = taken.iter().min().expect("sources");
     crate::print(&format!(

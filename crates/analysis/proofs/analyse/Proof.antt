@@ -1,7 +1,6 @@
 -- `analysis::analyse` meets its contract, by the laws of specs/. Assumes nothing.
 use native.Mathlib.Omega.{arith}
 use mathlib.Core.Path.{sym, ap, subst, _∙_}
-use Prim.Native.Nat.{_≤_}
 use Rattle.token.specs.Tokens.{answer, Few}
 use Rattle.token.specs.declared.Scanned.{Scanned}
 use Rattle.front.specs.Front.{Outcome}

@@ -1,9 +1,8 @@
 -- `analysis::parse_first` meets its contract, by the laws of specs/. Assumes nothing.
 use native.Mathlib.Omega.{arith}
-use mathlib.Core.Path.{_≡_, sym, ap, subst, _∙_}
+use mathlib.Core.Path.{sym, ap, subst, _∙_}
 use mathlib.Core.List.{List}
-use Prim.Native.Nat.{ℕ, _≤_}
-use lib.ListN.{length, take}
+use lib.ListN.{take}
 use lib.Seq.{length-take-le}
 use Rattle.token.specs.Tokens.{Entry, entries}
 use Rattle.analysis.specs.Analysed.{Parses}

@@ -4,10 +4,10 @@ use Rattle.judging.specs.Judge as judging
 use Rattle.judging.specs.Judge.{width-small}
 use borrow.Author.Needs.{needs}
 use native.Mathlib.Omega.{arith}
-use mathlib.Core.Path.{_≡_, refl, sym, ap, subst, _∙_}
+use mathlib.Core.Path.{_≡_, sym, ap, subst, _∙_}
 use mathlib.Core.List.{List, []}
 use Prim.Native.Nat.{ℕ, _+_, _-_, _<_, _≤_}
-use lib.ListN.{length, getD}
+use lib.ListN.{length}
 use Rattle.grammar.specs.Grammar.{Specification, Process, text-process, text-specifications}
 use Rattle.grammar.specs.Tokens.{unread}
 use Rattle.name_table.specs.View.{arrays}

@@ -1,13 +1,11 @@
 -- The invariant: clearing from i on what is cleared so far gives what clearing from n on would.
 use native.Mathlib.Omega.{arith}
-use mathlib.Core.Path.{_≡_, refl, sym, ap, _∙_}
-use Prim.Native.Nat.{ℕ, _+_, _-_, _<_, _≤_}
+use mathlib.Core.Path.{_≡_, refl, sym, _∙_}
+use Prim.Native.Nat.{_-_}
 use lib.ListN.{length, length-set}
 use Rattle.buffers.specs.Buffers.{cleared, cleared-more, cleared-all}
 use Rattle.buffers.proofs.clear_bytes.Statement.{statement}
 use Rattle.buffers.proofs.clear_bytes.Tie as tie
-use Rattle.buffers.proofs.clear_bytes.Reads as reads
-use Rattle.buffers.proofs.clear_bytes.Lts as lts
 
 abbrev Inv-loop : tie.InvT-loop
 Inv-loop bytes₀ n i₀ bytes i = (length bytes ≡ length bytes₀) × (cleared bytes i (length bytes₀) ≡ cleared bytes₀ n (length bytes₀))

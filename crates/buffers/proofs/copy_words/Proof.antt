@@ -1,14 +1,12 @@
 -- The invariant: the first i words are copied, the others are as they were.
 use native.Mathlib.Omega.{arith}
 use mathlib.Core.Path.{_≡_, refl, sym, ap, _∙_}
-use Prim.Native.Nat.{ℕ, _+_, _-_, _<_, _≤_}
+use Prim.Native.Nat.{ℕ, _+_, _-_, _≤_}
 use mathlib.Core.List.{List, _++_}
 use lib.ListN.{length, length-set, getD, set, take, drop}
 use Rattle.buffers.specs.Buffers.{copied, copied-none, copied-more}
 use Rattle.buffers.proofs.copy_words.Statement.{statement}
 use Rattle.buffers.proofs.copy_words.Tie as tie
-use Rattle.buffers.proofs.copy_words.Reads as reads
-use Rattle.buffers.proofs.copy_words.Lts as lts
 
 abbrev Inv-loop : tie.InvT-loop
 Inv-loop from to₀ n i₀ to i = (i ≤ n) × (length to ≡ length to₀) × (to ≡ copied from to₀ i)

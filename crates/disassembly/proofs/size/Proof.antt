@@ -1,7 +1,6 @@
 -- `disassembly::size` meets its contract: by what the decoded halfwords are.
 -- Assumes nothing.
-use mathlib.Core.Path.{_≡_, refl, sym, ap, _∙_}
-use Prim.Native.Nat.{ℕ}
+use mathlib.Core.Path.{refl, sym, ap, _∙_}
 use borrow.Author.Tests.{lt-ltb, le-ltb}
 use Rattle.word.specs.Choice.{pick-t, pick-f}
 use Rattle.thumb.specs.declared.Decoded.{Decoded}

@@ -1,6 +1,5 @@
 -- `emit::take_condition` meets its contract: it is one write, of the rule's own instructions.
 -- Assumes nothing.
-use Rattle.instructions.specs.Write.{first, rest, then}
 use Rattle.rules.specs.Blocks.{take-condition}
 use borrow.Author.Needs.{needs}
 use Rattle.emit.proofs.take_condition.Statement.{statement}

@@ -4,7 +4,7 @@ use mathlib.Core.Path.{_≡_}
 use Prim.Native.Nat.{_+_, _*_}
 use native.Mathlib.Omega.{arith}
 use Rattle.rules.specs.Code.{choice-code, repeat-code}
-use Rattle.instructions.specs.Write.{first, rest, then, kept, none}
+use Rattle.instructions.specs.Write.{first, rest, kept, none}
 use Rattle.emit.specs.Jumps.{then-room, then-ahead, else-room, else-ahead, choice-wrote, body-room, body-ahead, back-room, repeat-wrote}
 use Rattle.values.specs.Walk.{named, only, kind-is, kind-from, kind-to, skip-code, stop-code, conditional-names, conditional-code, loop-names, loop-code}
 use Rattle.generate.specs.Onward.{Onward, onward, last, left, right, left-asks, turn, only-loop}

@@ -1,7 +1,6 @@
 -- `instructions::put` meets its contract: by the encoding's count nothing, one halfword or two were stored (`Single`).
 -- Assumes nothing.
 use native.Mathlib.Omega.{arith}
-use mathlib.Core.Path.{refl}
 use native.Mathlib.Numerals.{towards-suc}
 use lib.ListN.{length-set}
 use Rattle.instructions.specs.Single.{room-some, room-two, wrote-none, wrote-one, wrote-two}

@@ -4,10 +4,9 @@ use mathlib.Core.List.{_++_}
 use Rattle.names.specs.Complaints.{is-known, when, bad-length}
 use Rattle.name_table.specs.View.{meant}
 use Rattle.judging.specs.Judge.{listed, over}
-use mathlib.Core.Path.{sym, ap, _∙_}
+use mathlib.Core.Path.{sym, _∙_}
 use borrow.Author.Tests.{eq-eqb, ne-eqb}
-use Rattle.names.specs.Complaints.{Verdict}
-use Rattle.judging.specs.Judge.{complaints-by, first-append, first-none, or-else}
+use Rattle.judging.specs.Judge.{complaints-by, first-append, first-none}
 use borrow.Author.Needs.{needs}
 use Rattle.judging.proofs.judge.Statement.{statement}
 use Rattle.judging.proofs.judge.Tie as tie

@@ -1,7 +1,7 @@
 -- `mnemonic::branch` meets its contract: the mnemonic and the address that the branch goes to were added.
 -- Assumes nothing.
 use mathlib.Core.Path.{ap, _∙_}
-use mathlib.Core.List.{List, _++_}
+use mathlib.Core.List.{_++_}
 use Prim.Native.Nat.{ℕ}
 use Rattle.word.specs.Word.{add}
 use Rattle.text.specs.Text.{written, fitted, hexadecimal}

@@ -1,10 +1,9 @@
 -- `mnemonic::next_number` meets its contract: the comma and the digits were added.
 -- Assumes nothing.
 use borrow.Author.Needs.{needs}
-use Rattle.text.specs.Text.{written, hexadecimal, decimal}
+use Rattle.text.specs.Text.{written, decimal}
 use Rattle.text.specs.Ascii.{ascii}
 use Rattle.text.specs.Laws.{joined}
-use Rattle.mnemonic.specs.Mnemonic as spec
 use Rattle.mnemonic.proofs.next_number.Statement.{statement}
 use Rattle.mnemonic.proofs.next_number.Tie as tie
 

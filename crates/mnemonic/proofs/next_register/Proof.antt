@@ -1,7 +1,7 @@
 -- `mnemonic::next_register` meets its contract: the comma and the register were added.
 -- Assumes nothing.
 use borrow.Author.Needs.{needs}
-use Rattle.text.specs.Text.{written, hexadecimal, decimal}
+use Rattle.text.specs.Text.{written}
 use Rattle.text.specs.Ascii.{ascii}
 use Rattle.text.specs.Laws.{joined}
 use Rattle.mnemonic.specs.Mnemonic as spec

@@ -1,8 +1,7 @@
 -- `mnemonic::offset` meets its contract: the mnemonic with the registers, and the number, were added.
 -- Assumes nothing.
 use borrow.Author.Needs.{needs}
-use Rattle.text.specs.Text.{written, hexadecimal, decimal}
-use Rattle.text.specs.Ascii.{ascii}
+use Rattle.text.specs.Text.{written}
 use Rattle.text.specs.Laws.{joined}
 use Rattle.mnemonic.specs.Mnemonic as spec
 use Rattle.mnemonic.proofs.offset.Statement.{statement}

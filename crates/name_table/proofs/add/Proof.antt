@@ -1,7 +1,6 @@
 -- `name_table::add` meets its contract. Each way through the code makes the same choices as the definition.
 -- Assumes nothing.
 use Rattle.name_table.specs.View.{view-more}
-use mathlib.Core.Path.{refl}
 use borrow.Author.Needs.{needs}
 use Rattle.name_table.proofs.add.Statement.{statement}
 use Rattle.name_table.proofs.add.Tie as tie

@@ -1,10 +1,8 @@
 -- `name_table::named` meets its contract. Each way through the code makes the same choices as the definition.
 -- Assumes nothing.
-use mathlib.Core.List.{List}
-use Prim.Native.Nat.{ℕ}
 use Rattle.names.specs.Scope.{same}
 use Rattle.name_table.specs.View as views
-use mathlib.Core.Path.{ap, ap₂, _∙_}
+use mathlib.Core.Path.{ap₂, _∙_}
 use borrow.Author.Needs.{needs}
 use Rattle.name_table.proofs.named.Statement.{statement}
 use Rattle.name_table.proofs.named.Tie as tie

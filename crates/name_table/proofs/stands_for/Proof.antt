@@ -2,9 +2,8 @@
 -- Assumes nothing.
 use borrow.Author.Needs.{needs}
 use mathlib.Core.Path.{_≡_, refl, sym, ap, _∙_}
-use lib.ListN.{length}
 use Rattle.names.specs.Scope.{lookup}
-use Rattle.name_table.specs.View.{text, view, meant, Table, lookup-found, lookup-next, lookup-none}
+use Rattle.name_table.specs.View.{text, view, meant, lookup-found, lookup-next, lookup-none}
 use Rattle.name_table.proofs.stands_for.Statement.{statement}
 use Rattle.name_table.proofs.stands_for.Tie as tie
 

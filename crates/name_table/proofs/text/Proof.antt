@@ -1,12 +1,11 @@
 -- `name_table::text` meets its contract. Each way through the code makes the same choices as the definition.
 -- Assumes nothing.
 use mathlib.Core.Path.{_≡_}
-use Prim.Native.Nat.{_+_, _-_, _≤_}
+use Prim.Native.Nat.{_+_, _-_}
 use lib.ListN.{length}
 use lib.Seq.{take-all, take-nil}
 use native.Mathlib.Omega.{arith}
 use mathlib.Core.Path.{sym, ap, _∙_}
-use mathlib.Core.List.{List}
 use Prim.Native.Nat.{ℕ}
 use lib.ListN.{take, drop, drop-of-length-le, length-drop}
 use borrow.Author.Needs.{needs}

@@ -1,6 +1,5 @@
 -- `operators::far_shift` meets its contract: it is one write, of the rule's own instructions.
 -- Assumes nothing.
-use Rattle.instructions.specs.Write.{first, rest, then}
 use Rattle.rules.specs.Blocks.{far-shift}
 use borrow.Author.Needs.{needs}
 use Rattle.operators.proofs.far_shift.Statement.{statement}

@@ -1,5 +1,4 @@
 -- `recognizer::advance` meets its contract, by its tests.
-use native.Mathlib.Omega.{arith}
 use borrow.Author.Needs.{needs}
 use Rattle.recognizer.proofs.advance.Statement.{statement}
 use Rattle.recognizer.proofs.advance.Tie as tie

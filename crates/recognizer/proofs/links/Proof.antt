@@ -1,7 +1,6 @@
 -- `recognizer::links` meets its contract, by the laws of specs/Stack.
 use Rattle.recognizer.specs.Stack.{links-plus, links-other, links-small, links-large}
 use mathlib.Core.Path.{sym}
-use native.Mathlib.Omega.{arith}
 use borrow.Author.Needs.{needs}
 use Rattle.recognizer.proofs.links.Statement.{statement}
 use Rattle.recognizer.proofs.links.Tie as tie

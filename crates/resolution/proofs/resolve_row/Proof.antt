@@ -1,6 +1,5 @@
 -- `resolution::resolve_row` meets its contract, by the laws of specs/. Assumes nothing.
-use mathlib.Core.Path.{_≡_, refl, sym, ap, _∙_}
-use mathlib.Core.List.{List}
+use mathlib.Core.Path.{sym, ap, _∙_}
 use Prim.Native.Nat.{ℕ, _*_}
 use lib.Seq.{sets}
 use Rattle.program.specs.Rows.{row}

@@ -1,10 +1,9 @@
 -- `resolution::walk_rows` meets its contract, by the laws of specs/. Assumes nothing.
 use native.Mathlib.Omega.{arith}
-use mathlib.Core.Path.{_≡_, refl, sym, ap, ap₂, _∙_}
-use mathlib.Core.List.{List}
-use Prim.Native.Nat.{ℕ, _+_, _-_, _*_}
-use lib.ListN.{getD, take, drop}
-use Rattle.names.specs.Complaints.{Verdict, fine}
+use mathlib.Core.Path.{_≡_, refl, sym, ap, _∙_}
+use Prim.Native.Nat.{ℕ, _-_}
+use lib.ListN.{getD}
+use Rattle.names.specs.Complaints.{fine}
 use Rattle.names.specs.RowComplaints.{lesser-of}
 use Rattle.name_table.specs.View.{meant, view, arrays}
 use Rattle.resolution.specs.Walk.{verdict, judged-by, walk-of, walk-turn, walk-end}

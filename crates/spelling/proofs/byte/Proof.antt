@@ -1,7 +1,7 @@
 -- `spelling::byte` meets its contract. Each way through the code makes the same choices as the definition.
 -- Assumes nothing.
 use native.Mathlib.Omega.{arith}
-use mathlib.Core.Path.{sym, ap, _∙_}
+use mathlib.Core.Path.{sym}
 use lib.ListN.{drop, length-drop, List·getD-eq-default}
 use lib.Seq.{getD-drop}
 use borrow.Author.Needs.{needs}

@@ -1,6 +1,5 @@
 -- `text::show` meets its contract: the bytes that it lends are there.
 -- Assumes nothing.
-use Prim.Native.Nat.{_≤_}
 use mathlib.Core.Path.{_≡_, sym}
 use lib.ListN.{length}
 use lib.Seq.{length-take-le}

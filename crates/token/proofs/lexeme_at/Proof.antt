@@ -1,6 +1,5 @@
 -- `token::lexeme_at` meets its contract. Each way through the code makes the same choices as the definition.
 -- Assumes nothing.
-use native.Mathlib.Omega.{arith}
 use lib.Seq.{drop-drop}
 use Rattle.word.specs.Tests.{tests}
 use Rattle.token.specs.Lexemes.{lexeme}

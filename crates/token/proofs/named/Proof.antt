@@ -2,7 +2,7 @@
 -- Assumes nothing.
 use native.Mathlib.Omega.{arith}
 use mathlib.Core.Path.{_≡_}
-use Prim.Native.Nat.{ℕ, _+_, _-_}
+use Prim.Native.Nat.{_+_, _-_}
 use borrow.Author.Tests.{le-leb, lt-leb}
 use lib.ListN.{drop, length-drop}
 use Rattle.token.specs.Lexemes.{named}

@@ -2,9 +2,9 @@
 -- Assumes nothing.
 use borrow.Author.Needs.{needs}
 use native.Mathlib.Omega.{arith}
-use mathlib.Core.Path.{_≡_, refl, sym, ap, _∙_}
-use Prim.Native.Nat.{ℕ, _+_, _-_, _<_, _≤_}
-use lib.ListN.{length, getD, drop, set, length-set}
+use mathlib.Core.Path.{_≡_, ap, _∙_}
+use Prim.Native.Nat.{_-_, _≤_}
+use lib.ListN.{length, drop, length-set}
 use Rattle.token.specs.Tokens.{outcome, entries}
 use Rattle.token.specs.Tokens as tokens
 use Rattle.token.specs.TokenLaws.{before, before-read, before-refused, before-none, before-more, scan-end, step-separator, step-broken, step-full, step-fits, step-token, outcome-short}

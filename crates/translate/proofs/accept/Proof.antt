@@ -1,8 +1,8 @@
 -- `translate::accept` meets its contract, by the laws of specs/. Assumes nothing.
 use native.Mathlib.Omega.{arith}
-use mathlib.Core.Path.{_≡_, sym, subst, _∙_}
-use Prim.Native.Nat.{ℕ, _-_, _*_, _<_, _≤_}
-use Rattle.program.specs.Rows.{table-of, row-count}
+use mathlib.Core.Path.{sym, subst, _∙_}
+use Prim.Native.Nat.{ℕ, _-_, _<_}
+use Rattle.program.specs.Rows.{table-of}
 use Rattle.program.specs.ReadBack.{length-table}
 use Rattle.program.specs.Table.{process-at}
 use Rattle.rules.specs.Code.{image-code}
