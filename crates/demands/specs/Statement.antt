@@ -9,6 +9,7 @@ use Rattle.grammar.specs.Grammar as grammar
 use Rattle.program.specs.Tree.{Program}
 use Rattle.front.specs.Front.{Outcome, refused, accepted, front, text-of}
 use Rattle.front.specs.Exact.{IsX, Room}
+use Rattle.front.specs.Refused.{Refusal}
 use Rattle.names.specs.Resolve.{resolve}
 use Rattle.rules.specs.Code.{image}
 use Rattle.translate.specs.Translate.{Translated, translation, zeros}
@@ -23,9 +24,11 @@ use Rattle.simulate.specs.Statement.{Lent, Demand3}
 -- ── demand 1: everything is answered ──
 
 -- "A bad source is refused with one number and one place ... and leaves table and image all zero"; "its counts are all 0"
-pub record RefusedWhole (table code : ℕ) (o : Outcome) (t : Translated) : Type 0 where
+pub record RefusedWhole (source : List ℕ) (table code : ℕ) (o : Outcome) (t : Translated) : Type 0 where
   -- "in document 01's order": the number and place are those that `front` comes to
   pub by-order : o ≡ refused (t .answer .status) (t .answer .place)
+  -- the number is 1 to 14, the place a byte of the source or its length
+  pub numbered : Refusal source (t .answer .status) (t .answer .place)
   pub table-zero : t .table ≡ zeros table
   pub code-zero : t .code ≡ zeros code
   pub no-tokens : t .answer .tokens ≡ 0
@@ -40,7 +43,7 @@ pub record Unchanged (code words : List ℕ) (m : Machine) : Type 0 where
   pub memory : stepOf code words m .after .words ≡ words
 
 pub record Demand1 : Type 0 where
-  pub refuses : (source : List ℕ) (table code : ℕ) → 0 < translation source table code .answer .status → RefusedWhole table code (front source table code) (translation source table code)
+  pub refuses : (source : List ℕ) (table code : ℕ) → 0 < translation source table code .answer .status → RefusedWhole source table code (front source table code) (translation source table code)
   pub faulted : (code words : List ℕ) (m : Machine) → 0 < stepOf code words m .after .state .status → Unchanged code words m
 
 -- ── demand 2: exactly X, exactly Arm ──
@@ -48,6 +51,7 @@ pub record Demand1 : Type 0 where
 -- a source that the translation accepted, as this program
 pub record Translates (source : List ℕ) (table code : ℕ) (p : Program) : Type 0 where
   pub status : translation source table code .answer .status ≡ 0
+  pub place : translation source table code .answer .place ≡ 0
   pub front-end : (n : ℕ) × (front source table code ≡ accepted n p)
   -- "the image as code" is the first bytes of the code buffer, as many as the answer says
   pub image-bytes : take (translation source table code .answer .code) (translation source table code .code) ≡ image p
@@ -61,6 +65,8 @@ pub record XAs (source : List ℕ) (table code : ℕ) (p : Program) : Type 0 whe
   pub resolved : p ≡ resolve (text-of source ts) tree
 
 pub record Demand2 : Type 0 where
+  -- "status 0, place 0 is accepted": what has status 0 was translated
+  pub status-0 : (source : List ℕ) (table code : ℕ) → translation source table code .answer .status ≡ 0 → (p : Program) × Translates source table code p
   -- "With room, a source is accepted exactly if it is X by grammar, names and limits"
   pub accepted-is-X : (source : List ℕ) (table code : ℕ) (p : Program) → Translates source table code p → XAs source table code p
   pub X-is-accepted : (source : List ℕ) (table code : ℕ) (p : Program) → XAs source table code p → Translates source table code p

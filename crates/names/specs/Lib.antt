@@ -9,3 +9,4 @@ pub mod First
 pub mod Order
 pub mod RowComplaints
 pub mod Specified
+pub mod Numbered
