@@ -49,6 +49,8 @@ front-translates source table code n p e =
       status = ap (λ (o : Outcome). translated table code o .answer .status) e;
       place = ap (λ (o : Outcome). translated table code o .answer .place) e;
       front-end = (n, e);
+      data-words = ap (λ (o : Outcome). translated table code o .answer .«data») e;
+      depth = ap (λ (o : Outcome). translated table code o .answer .depth) e;
       image-bytes = ap (λ (o : Outcome). take (translated table code o .answer .code) (translated table code o .code)) e ∙ taken (image p) (zeros (code - length (image p)));
     }
 

@@ -19,7 +19,7 @@ use Rattle.thumb.specs.declared.Instr.{Instr}
 use Rattle.thumb.specs.declared.Decoded.the-variants.{Known}
 use Rattle.exec.specs.declared.Machine.{Machine}
 use Rattle.machine.specs.Step.{stepOf}
-use Rattle.simulate.specs.Statement.{Lent, Demand3}
+use Rattle.simulate.specs.Statement.{D, N, Lent, Demand3}
 
 -- ── demand 1: everything is answered ──
 
@@ -53,6 +53,9 @@ pub record Translates (source : List ℕ) (table code : ℕ) (p : Program) : Typ
   pub status : translation source table code .answer .status ≡ 0
   pub place : translation source table code .answer .place ≡ 0
   pub front-end : (n : ℕ) × (front source table code ≡ accepted n p)
+  -- "The source's own numbers are those that start takes, D and N": the answer has them
+  pub data-words : translation source table code .answer .«data» ≡ D p
+  pub depth : translation source table code .answer .depth ≡ N p
   -- "the image as code" is the first bytes of the code buffer, as many as the answer says
   pub image-bytes : take (translation source table code .answer .code) (translation source table code .code) ≡ image p
 
