@@ -284,8 +284,8 @@ abbrev pub complete : Configuration → Bool
 complete c = ends-at (c .mode) (length (c .stack))
 
 -- level 32 was reached
-abbrev pub sinks : Bool → ℕ → Bool
-sinks deep l = pick (eqb l 32) true deep
+abbrev pub deep-by : Bool → ℕ → Bool
+deep-by deep l = pick (eqb l 32) true deep
 
 -- the first h rows of a table, as frames, the last one innermost
 unfoldable pub frames : List ℕ → ℕ → List Frame

@@ -15,35 +15,35 @@ use Rattle.grammar.specs.Unread.{unread-cons, unread-end, length-unread}
 use Rattle.grammar.specs.Depth.{depth, deepest}
 use Rattle.recognizer.specs.declared.Recognized.{Recognized}
 use Rattle.recognizer.specs.declared.Recognized.the-variants as answer
-use Rattle.recognizer.specs.Pushdown.{Configuration, at, configuration, mode-partial, advance, doing, complete, sinks}
+use Rattle.recognizer.specs.Pushdown.{Configuration, at, configuration, mode-partial, advance, doing, complete, deep-by}
 use Rattle.recognizer.specs.Follows.{Agrees, follows, Ends, finishes}
 use Rattle.recognizer.specs.Nested.{Deep, deep-there, deep-on}
 
 -- no state is refused
-lives-partial : (x : Partial) → mode-partial x ≡ 19 → ⊥
-lives-partial var-read e = omega (arith, e)
-lives-partial array-read e = omega (arith, e)
-lives-partial (array-named x) e = omega (arith, e)
-lives-partial (array-opened x) e = omega (arith, e)
-lives-partial (array-sized x c) e = omega (arith, e)
-lives-partial val-read e = omega (arith, e)
-lives-partial (val-named x) e = omega (arith, e)
-lives-partial (val-equated x) e = omega (arith, e)
-lives-partial (whole s) e = omega (arith, e)
+partial-not-refused : (x : Partial) → mode-partial x ≡ 19 → ⊥
+partial-not-refused var-read e = omega (arith, e)
+partial-not-refused array-read e = omega (arith, e)
+partial-not-refused (array-named x) e = omega (arith, e)
+partial-not-refused (array-opened x) e = omega (arith, e)
+partial-not-refused (array-sized x c) e = omega (arith, e)
+partial-not-refused val-read e = omega (arith, e)
+partial-not-refused (val-named x) e = omega (arith, e)
+partial-not-refused (val-equated x) e = omega (arith, e)
+partial-not-refused (whole s) e = omega (arith, e)
 
-lives : (s : State) → configuration s .mode ≡ 19 → ⊥
-lives (at-front b n) e = omega (arith, e)
-lives (specifying b n x) e = lives-partial x e
-lives (need-process c) e = omega (arith, e)
-lives (brace-opened c) e = omega (arith, e)
-lives (target n c) e = omega (arith, e)
-lives (target-element n s c) e = omega (arith, e)
-lives (have-process p c) e = omega (arith, e)
-lives (need-expression c) e = omega (arith, e)
-lives (need-operand c) e = omega (arith, e)
-lives (name-read n c) e = omega (arith, e)
-lives (have-operand a c) e = omega (arith, e)
-lives (have-expression x c) e = omega (arith, e)
+not-refused : (s : State) → configuration s .mode ≡ 19 → ⊥
+not-refused (at-front b n) e = omega (arith, e)
+not-refused (specifying b n x) e = partial-not-refused x e
+not-refused (need-process c) e = omega (arith, e)
+not-refused (brace-opened c) e = omega (arith, e)
+not-refused (target n c) e = omega (arith, e)
+not-refused (target-element n s c) e = omega (arith, e)
+not-refused (have-process p c) e = omega (arith, e)
+not-refused (need-expression c) e = omega (arith, e)
+not-refused (need-operand c) e = omega (arith, e)
+not-refused (name-read n c) e = omega (arith, e)
+not-refused (have-operand a c) e = omega (arith, e)
+not-refused (have-expression x c) e = omega (arith, e)
 
 -- the answer of n tokens that read as r
 abbrev pub Says : ℕ → Reading → Recognized → Type 0
@@ -60,11 +60,11 @@ module _ (kinds values : List ℕ) where
     pub state : State
     pub same : configuration state ≡ c
     pub comes : reads (unread kinds values 0) ≡ run (unread kinds values i) state
-    pub sunk : deep ≡ true → Deep state
+    pub too-deep : deep ≡ true → Deep state
 
   pub stands-first : Stands 0 (at 0 0 0 []) false
   unfolding reads
-  stands-first = record { state = at-front [] 0; same = refl; comes = refl; sunk = λ e. let z : _≡_ {A = ℕ} 0 1 = cc in absurd (omega arith) }
+  stands-first = record { state = at-front [] 0; same = refl; comes = refl; too-deep = λ e. let z : _≡_ {A = ℕ} 0 1 = cc in absurd (omega arith) }
 
   module _ (i : ℕ) (b : i < length kinds) (c c′ : Configuration) (deep : Bool) (h : Stands i c deep) (e : c′ ≡ advance c (getD kinds i 0)) where
     abbrev t : Token
@@ -82,24 +82,24 @@ module _ (kinds values : List ℕ) where
       where
         by : (m : Move) → step (h .state) t ≡ m → Agrees m (doing c (getD kinds i 0)) (c .stack) → Says (length kinds) (reads (unread kinds values 0)) (answer.Bad i)
         by none q g = (unread kinds values i, after none q, omega (arith, b, length-unread kinds values i))
-        by (go s) q g = absurd (lives s (ap (λ (d : Configuration). d .mode) (sym g ∙ sym e) ∙ z))
+        by (go s) q g = absurd (not-refused s (ap (λ (d : Configuration). d .mode) (sym g ∙ sym e) ∙ z))
 
-    pub stands-next : ¬ (c′ .mode ≡ 19) → Stands (i + 1) c′ (sinks deep (c′ .level))
+    pub stands-next : ¬ (c′ .mode ≡ 19) → Stands (i + 1) c′ (deep-by deep (c′ .level))
     stands-next z = by (step (h .state) t) refl onto
       where
-        by : (m : Move) → step (h .state) t ≡ m → Agrees m (doing c (getD kinds i 0)) (c .stack) → Stands (i + 1) c′ (sinks deep (c′ .level))
+        by : (m : Move) → step (h .state) t ≡ m → Agrees m (doing c (getD kinds i 0)) (c .stack) → Stands (i + 1) c′ (deep-by deep (c′ .level))
         by none q g = absurd (z (ap (λ (d : Configuration). d .mode) e ∙ g))
         by (go s) q g =
             record {
               state = s;
               same = sym g ∙ sym e;
               comes = after (go s) q;
-              sunk = λ y. by-test (λ (x : Bool). Deep s) (eqb (c′ .level) 32) (λ x. deep-there s (ap (λ (d : Configuration). d .level) (sym g ∙ sym e) ∙ eqb-true (c′ .level) 32 x)) (λ x. deep-on (h .state) s t q (h .sunk (ap (λ (w : Bool). pick w true deep) (sym x) ∙ y)));
+              too-deep = λ y. by-test (λ (x : Bool). Deep s) (eqb (c′ .level) 32) (λ x. deep-there s (ap (λ (d : Configuration). d .level) (sym g ∙ sym e) ∙ eqb-true (c′ .level) 32 x)) (λ x. deep-on (h .state) s t q (h .too-deep (ap (λ (w : Bool). pick w true deep) (sym x) ∙ y)));
             }
 
   pub stands-last : (i : ℕ) (c : Configuration) (deep : Bool) → Stands i c deep → i ≤ length kinds → length kinds ≤ i → Says (length kinds) (reads (unread kinds values 0)) (ended (complete c) deep i)
   unfolding run
-  stands-last i c deep h a b = subst (λ (d : Configuration). Says (length kinds) (reads (unread kinds values 0)) (ended (complete d) deep i)) (h .same) (by (final (h .state)) (complete (configuration (h .state))) refl (finishes (h .state)) deep (h .sunk))
+  stands-last i c deep h a b = subst (λ (d : Configuration). Says (length kinds) (reads (unread kinds values 0)) (ended (complete d) deep i)) (h .same) (by (final (h .state)) (complete (configuration (h .state))) refl (finishes (h .state)) deep (h .too-deep))
     where
       there : reads (unread kinds values 0) ≡ final (h .state)
       there = h .comes ∙ ap (λ (w : List Token). run w (h .state)) (unread-end kinds values i b)

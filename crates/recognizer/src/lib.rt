@@ -455,8 +455,8 @@ fn advance(table: &mut [u32; 4096], c: Control, k: u8) -> Control
 }
 
 // Whether level 32 was reached.
-fn sinks(deep: bool, level: u32) -> bool
-    ensures { λ r. ⌜ r ≡ rules.sinks deep level ⌝ }
+fn deep_by(deep: bool, level: u32) -> bool
+    ensures { λ r. ⌜ r ≡ rules.«deep-by» deep level ⌝ }
 {
     if level == 32 {
         return true;
@@ -508,7 +508,7 @@ pub fn recognize(kinds: &[u8], table: &mut [u32; 4096]) -> Recognized
         if c.mode == 19 {
             return Recognized::Bad(i);
         }
-        deep = sinks(deep, c.level);
+        deep = deep_by(deep, c.level);
         i += 1;
     }
     at_end(complete(c.mode, c.height), deep, i)

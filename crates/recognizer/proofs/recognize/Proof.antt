@@ -32,7 +32,7 @@ recognize-spec =
     (λ c κs. search needs)
     (λ c. omega arith)
     (λ c. omega arith)
-    (λ c. let v = c .before .before .before .before .before .before .before .loop in let a = c .before .before .before .advance .ensures in (omega arith, omega (arith, a .1, v .inv .1), a .2, λ values. rw (c .sinks .ensures) (stands-next _ values (v .i) (omega arith) _ _ (v .deep) (v .inv .3 values) (a .0) (c .before .if1 .left))))
+    (λ c. let v = c .before .before .before .before .before .before .before .loop in let a = c .before .before .before .advance .ensures in (omega arith, omega (arith, a .1, v .inv .1), a .2, λ values. rw (c .deep-by .ensures) (stands-next _ values (v .i) (omega arith) _ _ (v .deep) (v .inv .3 values) (a .0) (c .before .if1 .left))))
     (λ c κs. search needs)
     (λ c κs. search needs)
     (λ c. let v = c .before .before .before .loop in (λ values. rw (c .at-end .ensures, c .before .complete .ensures) (subst (λ (h : ℕ). Says (length (c .before .before .before .before .before .args .kinds .now)) (reads (unread (c .before .before .before .before .before .args .kinds .now) values 0)) (ended (ends-at (v .c .mode) h) (v .deep) (v .i))) (length-frames (v .table) (v .c .height)) (stands-last _ values (v .i) _ (v .deep) (v .inv .3 values) (v .inv .0) (omega arith))), v .inv .2)))
