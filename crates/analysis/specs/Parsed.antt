@@ -95,8 +95,7 @@ module _ (source ks ps vs : List ℕ) (lp : length ps ≡ length ks) (lv : lengt
 
     -- 7
     pub too-deep : 32 < max depth deepest → come ≡ front.refused 7 0
-    unfolding named
-    too-deep h = as-named ∙ rw (lt-ltb 32 (max (grammar-depth.depth p) (grammar-depth.deepest p)) (rw (← (c .depth-is), ← (c .deepest-is)) h))
+    too-deep h = deep-program p (c .reading) (rw (← (c .depth-is), ← (c .deepest-is)) h)
 
     pub small : length ks ≤ 1024 → (start ≤ 1024) × (rows ≤ 1024)
     small l =

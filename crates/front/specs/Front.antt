@@ -1,6 +1,6 @@
 -- What a source comes to: the resolved program, or one refusal, in document 01's order. Definitions; rests on tokens, grammar and names.
 use mathlib.Core.List.{List, [], _∷_}
-use Prim.Native.Nat.{ℕ, zero, suc, _+_, _*_, max}
+use Prim.Native.Nat.{ℕ, zero, suc, _+_, _*_}
 use lib.Dec.{ltb, leb}
 use lib.ListN.{length, take, drop}
 use Rattle.word.specs.Choice.{pick}
@@ -10,7 +10,7 @@ use Rattle.grammar.specs.Grammar as grammar
 use Rattle.grammar.specs.Tokens.{token-of}
 use Rattle.grammar.specs.Automaton as automaton
 use Rattle.grammar.specs.Automaton.{reads}
-use Rattle.grammar.specs.Depth.{depth, deepest}
+use Rattle.grammar.specs.Depth.{too-deep}
 use Rattle.program.specs.Tree.{Program}
 use Rattle.names.specs.Complaints as names
 use Rattle.names.specs.Complaints.{complaints, least}
@@ -56,7 +56,7 @@ judged names.fine n p = accepted n p
 -- "7 depth of an expression, assigned element or process above 32", place 0
 unfoldable pub named : List ℕ → List Entry → grammar.Program → Outcome
 named source ts p =
-    pick (ltb 32 (max (depth p) (deepest p))) (refused 7 0)
+    pick (too-deep p) (refused 7 0)
     (judged (least (complaints (text-of source ts) (place-of ts) p)) (length ts) (resolve (text-of source ts) p))
 
 -- "6 grammar: first token that no program continues with"

@@ -1,8 +1,7 @@
 -- Depth of expressions, assigned elements and processes, on trees. Definitions; rests on the grammar's trees.
-use mathlib.Core.Bool.{Bool, true}
+use mathlib.Core.Bool.{Bool}
 use Prim.Native.Nat.{ℕ, suc, max}
 use lib.Dec.{ltb}
-use Rattle.word.specs.Choice.{pick}
 use Rattle.grammar.specs.Grammar.{Expression, single, monadic, diadic, Chain, last, more, Operand, constant, variable, element, bracketed, Process, skip, stop, assign, assign-element, empty, braces, conditional, while, after-comment, Processes, only, followed, Program, program}
 
 -- "Depth: a constant or name is 1; brackets, a subscript, a monadic or a diadic operation add 1 to the deepest part, a chain counted as grouped."
@@ -66,4 +65,4 @@ deepest (program ss p) = deepest-process p
 
 -- refusal 7: "depth of an expression, assigned element or process above 32"
 abbrev pub too-deep : Program → Bool
-too-deep p = pick (ltb 32 (depth p)) true (ltb 32 (deepest p))
+too-deep p = ltb 32 (max (depth p) (deepest p))

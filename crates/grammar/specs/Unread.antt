@@ -8,7 +8,7 @@ use native.Mathlib.Numerals.{add-one}
 use lib.Dec.{eqb, ltb}
 use lib.ListN.{length, getD, List·getD-eq-default}
 use borrow.Author.Tests.{ltb-true, ltb-false, eqb-true, eqb-false, ne-eqb}
-use Rattle.word.specs.Choice.{pick, by-test}
+use Rattle.word.specs.Choice.{pick, pick-false, by-test}
 use Rattle.spelling.specs.Kinds as kind
 use Rattle.grammar.specs.Grammar.{Token, number, name, mark, is-monadic, is-diadic, is-associative}
 use Rattle.grammar.specs.Automaton.{is, kind-of, goes-on, OperandContext, need-operand, ProcessContext, need-process, run, refused}
@@ -41,10 +41,6 @@ token-case P i k v a b c = go (eqb k 1) (eqb k 2) refl refl
     go true y p q = subst (λ (j : ℕ). P j (number v)) (sym (eqb-true k 1 p)) a
     go false true p q = subst (λ (j : ℕ). P j (name i)) (sym (eqb-true k 2 q)) b
     go false false p q = c (eqb-false k 1 p) (eqb-false k 2 q)
-
-pick-false : (a : Bool) → pick a false false ≡ false
-pick-false true = refl
-pick-false false = refl
 
 at-diadic : (i k v : ℕ) → is-diadic (kind-of (token-of i k v)) ≡ is-diadic k
 at-diadic i k v = token-case (λ k t. is-diadic (kind-of t) ≡ is-diadic k) i k v refl refl (λ a b. refl)

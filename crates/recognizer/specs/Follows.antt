@@ -8,7 +8,7 @@ use native.Mathlib.Omega.{arith}
 use lib.Dec.{eqb, leb}
 use lib.ListN.{length}
 use borrow.Author.Tests.{ne-eqb, eqb-true, leb-true}
-use Rattle.word.specs.Choice.{pick, both, either, by-test}
+use Rattle.word.specs.Choice.{pick, pick-false, both, either, by-test}
 use Rattle.spelling.specs.Kinds as kind
 use Rattle.grammar.specs.Grammar.{Token, number, name, mark, Process, Expression, Operand, Specification, last, is-monadic, is-diadic, is-associative}
 use Rattle.grammar.specs.Automaton.{ProcessContext, top, in-braces, in-then, in-else, in-body, in-comment, ListContext, opened, also, ExpressionContext, in-assign, in-target, in-assign-element, in-if, in-while, in-brackets, in-subscript, OperandContext, first, under, next, ChainContext, after, link, chain-base, chain-built, list-base, Partial, var-read, array-read, array-named, array-opened, array-sized, val-read, val-named, val-equated, whole, State, at-front, specifying, need-process, brace-opened, target, target-element, have-process, need-expression, need-operand, name-read, have-operand, have-expression, Move, go, none, is, in-comments, goes-on, step-have-process, step-have-expression, step-have-operand, step-operand, step-expression, step-process, step-partial, step, Reading, accepted, refused, final-process, final-expression, final-operand, final}
@@ -213,14 +213,10 @@ final-operands (first c) a = final-expressions c _
 final-operands (under o c) a = final-expressions c _
 final-operands (next o c) a = subst (λ (s : List Frame). Ends (final-operand (next o c) a) (eqb (length s) 0)) (chain-frames c) (final-expressions (chain-base c) _)
 
--- a mode in which a program can end, and one in which none does
+-- a mode in which a program can end
 can-end : (b : Bool) → b ≡ pick b true false
 can-end true = refl
 can-end false = refl
-
-never : (b : Bool) → pick b false false ≡ false
-never true = refl
-never false = refl
 
 partial-incomplete : (b : List Specification) (n : ℕ) (x : Partial) → complete (configuration (specifying b n x)) ≡ false
 partial-incomplete b n var-read = refl
@@ -236,13 +232,13 @@ partial-incomplete b n (whole s) = refl
 pub finishes : (s : State) → Ends (final s) (complete (configuration s))
 finishes (at-front b n) = (refl, refl)
 finishes (specifying b n x) = (refl, partial-incomplete b n x)
-finishes (need-process c) = (refl, never (eqb (length (frames-process c)) 0))
-finishes (brace-opened c) = (refl, never (eqb (suc (length (frames-process c))) 0))
-finishes (target n c) = (refl, never (eqb (length (frames-process c)) 0))
-finishes (target-element n e c) = (refl, never (eqb (length (frames-process c)) 0))
+finishes (need-process c) = (refl, pick-false (eqb (length (frames-process c)) 0))
+finishes (brace-opened c) = (refl, pick-false (eqb (suc (length (frames-process c))) 0))
+finishes (target n c) = (refl, pick-false (eqb (length (frames-process c)) 0))
+finishes (target-element n e c) = (refl, pick-false (eqb (length (frames-process c)) 0))
 finishes (have-process p c) = subst (Ends (final-process c p)) (can-end _) (final-processes c p)
-finishes (need-expression c) = (refl, never (eqb (length (frames-expression c)) 0))
-finishes (need-operand c) = (refl, never (eqb (length (frames-operand c)) 0))
+finishes (need-expression c) = (refl, pick-false (eqb (length (frames-expression c)) 0))
+finishes (need-operand c) = (refl, pick-false (eqb (length (frames-operand c)) 0))
 finishes (name-read n c) = subst (Ends (final-operand c _)) (can-end _) (final-operands c _)
 finishes (have-operand a c) = subst (Ends (final-operand c a)) (can-end _) (final-operands c a)
 finishes (have-expression e c) = subst (Ends (final-expression c e)) (can-end _) (final-expressions c e)

@@ -11,7 +11,7 @@ use lib.Dec.{eqb, ltb}
 use lib.ListN.{length, getD, drop, drop-of-length-le}
 use lib.Seq.{drop-cons}
 use borrow.Author.Tests.{eq-eqb, ne-eqb, eqb-true, ltb-true, ltb-false}
-use Rattle.word.specs.Choice.{pick, by-test, both}
+use Rattle.word.specs.Choice.{pick, pick-false, by-test, both}
 use Rattle.spelling.specs.Characters.{one-of, in-class, digit, digit-value, span, numeral}
 use Rattle.spelling.specs.Words.{same}
 use Rattle.spelling.specs.declared.Word.{Word}
@@ -90,16 +90,12 @@ module _ (a b : List ℕ) (i : ℕ) where
   unfolding same
   same-end h k = rw (drop-of-length-le a h, drop-of-length-le b k)
 
-neither : (x : Bool) → pick x false false ≡ false
-neither true = refl
-neither false = refl
-
 pub same-length : (a b : List ℕ) → ¬ (length a ≡ length b) → same a b ≡ false
 unfolding same
 same-length [] [] h = absurd (h refl)
 same-length [] (y ∷ b) h = refl
 same-length (x ∷ a) [] h = refl
-same-length (x ∷ a) (y ∷ b) h = rw (same-length a b (λ e. h (ap suc e))) (neither (eqb x y))
+same-length (x ∷ a) (y ∷ b) h = rw (same-length a b (λ e. h (ap suc e))) (pick-false (eqb x y))
 
 -- what is the same is equal, and the other way round
 pub same-equal : (a b : List ℕ) → same a b ≡ true → a ≡ b
