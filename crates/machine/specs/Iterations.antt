@@ -3,19 +3,19 @@ use mathlib.Core.Path.{_≡_, refl, sym, ap, _∙_}
 use mathlib.Core.Bool.{Bool, true, false}
 use mathlib.Core.List.{List, [], _∷_}
 use Prim.Native.Nat.{ℕ, zero, suc, _+_}
-use native.Mathlib.Nat.{add-zero, zero-add}
+use native.Mathlib.Nat.{add-zero, zero-add, add-assoc}
 use native.Mathlib.Omega.{arith}
 use lib.ListN.{length}
 use lib.Dec.{eqb, leb}
-use borrow.Author.Tests.{eqb-true, eqb-false, eq-eqb, le-leb, lt-leb}
+use borrow.Author.Tests.{eqb-true, eqb-false, eq-eqb, lt-leb}
 use Rattle.word.specs.Choice.{pick, by-test}
-use Rattle.exec.specs.Exec.{After, after, done, fault}
+use Rattle.exec.specs.Exec.{After, after, done, fault, stops}
 use Rattle.exec.specs.declared.Machine.{Machine}
 use Rattle.exec.specs.declared.Stepped.{Stepped}
-use Rattle.machine.specs.Step.{onceOf, refusalOf, stepOf}
+use Rattle.machine.specs.Step.{onceOf, step-count, refusalOf, stepOf}
 use Rattle.machine.specs.Run.{RunAfter, run-after, ran, onward, runFrom, runOf}
 use Rattle.machine.specs.Turns.{run-from-add}
-use Rattle.machine.specs.Laws.{once-length, once-done}
+use Rattle.machine.specs.Laws.{refusal-large, once-length, once-done}
 
 -- ── the iterations ──
 
@@ -26,10 +26,10 @@ iterations (suc n) c w m =
     let a = stepOf c w m .after in
     a ∷ pick (eqb (a .state .status) 0) (iterations n c (a .words) (a .state .machine)) []
 
--- "reports how many completed": an iteration succeeded if it completed an instruction, or was an SVC
+-- "reports how many completed": the sum of what the iterations count as steps
 unfoldable pub successes : List After → ℕ
 successes [] = 0
-successes (a ∷ more) = pick (leb (a .state .status) 1) (suc (successes more)) (successes more)
+successes (a ∷ more) = step-count (a .state .status) + successes more
 
 -- the last of some, or x
 unfoldable pub last-of : After → List After → After
@@ -56,26 +56,25 @@ still-accepted c w m r = refusal-length c w (onceOf c w m .after .words) (once-l
 
 -- ── a run is its iterations ──
 
-turn : (k : ℕ) (x a : After) (its : List After) (more : RunAfter) → (a .state .status ≡ 0 → more ≡ reported (k + 1) a its)
-    → onward (eqb (a .state .status) 0) (eqb (a .state .status) 1) more a k ≡ reported k x (a ∷ pick (eqb (a .state .status) 0) its [])
+turn : (k : ℕ) (x a : After) (its : List After) (more : RunAfter) → (a .state .status ≡ 0 → more ≡ reported (k + step-count (a .state .status)) a its)
+    → onward (eqb (a .state .status) 0) more a (k + step-count (a .state .status)) ≡ reported k x (a ∷ pick (eqb (a .state .status) 0) its [])
 unfolding successes last-of
 turn k x a its more h =
-    let s = a .state .status in
-    by-test (λ t. onward t (eqb s 1) more a k ≡ reported k x (a ∷ pick t its [])) (eqb s 0)
-    (λ e. let z = eqb-true s 0 e in h z ∙ rw (le-leb s 1 (omega arith)) (ap (λ (j : ℕ). run-after (ran (last-of a its .state) j) (last-of a its .words)) (omega arith)))
-    (λ e. by-test (λ t. onward false t more a k ≡ reported k x (a ∷ [])) (eqb s 1)
-    (λ f. rw (eqb-true s 1 f))
-    (λ f. rw (lt-leb s 1 (omega (arith, eqb-false s 0 e, eqb-false s 1 f))) (ap (λ (j : ℕ). run-after (ran (a .state) j) (a .words)) (sym (add-zero k)))))
+    let j = step-count (a .state .status) in
+    by-test (λ t. onward t more a (k + j) ≡ reported k x (a ∷ pick t its [])) (eqb (a .state .status) 0)
+    (λ e. h (eqb-true (a .state .status) 0 e) ∙ ap (λ (i : ℕ). run-after (ran (last-of a its .state) i) (last-of a its .words)) (add-assoc k j (successes its)))
+    (λ e. ap (λ (i : ℕ). run-after (ran (a .state) i) (a .words)) (omega arith))
 
 run-from-iterations : (n k : ℕ) (c w : List ℕ) (m : Machine) → refusalOf c w ≡ 0 → runFrom n k c w m ≡ reported k (after (done m) w) (iterations n c w m)
 unfolding runFrom iterations
 run-from-iterations zero k c w m r = unfold successes last-of in ap (λ (j : ℕ). run-after (ran (done m) j) w) (sym (add-zero k))
 run-from-iterations (suc n) k c w m r =
     let a = onceOf c w m .after in
+    let j = k + step-count (a .state .status) in
     let its = iterations n c (a .words) (a .state .machine) in
     rw (step-is-once c w m r)
-    (turn k (after (done m) w) a its (runFrom n (k + 1) c (a .words) (a .state .machine))
-    (λ z. run-from-iterations n (k + 1) c (a .words) (a .state .machine) (still-accepted c w m r) ∙ ap (λ (s : Stepped). reported (k + 1) (after s (a .words)) its) (sym (once-done c w m z))))
+    (turn k (after (done m) w) a its (runFrom n j c (a .words) (a .state .machine))
+    (λ z. run-from-iterations n j c (a .words) (a .state .machine) (still-accepted c w m r) ∙ ap (λ (s : Stepped). reported j (after s (a .words)) its) (sym (once-done c w m z))))
 
 -- a run hands back the last iteration's answer, state and words, and counts those that succeeded
 pub run-is-iterations : (n : ℕ) (c w : List ℕ) (m : Machine) → refusalOf c w ≡ 0 → runOf n c w m ≡ reported 0 (after (done m) w) (iterations n c w m)
@@ -85,6 +84,27 @@ run-is-iterations n c w m r = rw (eq-eqb (refusalOf c w) 0 r) (run-from-iteratio
 -- "the number equals the count of successful iterations of the step definition"
 pub run-count : (n : ℕ) (c w : List ℕ) (m : Machine) → refusalOf c w ≡ 0 → runOf n c w m .state .count ≡ successes (iterations n c w m)
 run-count n c w m r = ap (λ (x : RunAfter). x .state .count) (run-is-iterations n c w m r) ∙ zero-add _
+
+-- ── a run of one is a step ──
+
+-- with limit 1 a run hands back what a step does, refused or not, and counts what the step counts
+pub run-one : (c w : List ℕ) (m : Machine) → let a = stepOf c w m .after in runOf 1 c w m ≡ run-after (ran (a .state) (step-count (a .state .status))) (a .words)
+unfolding runOf stepOf runFrom
+run-one c w m =
+    by-test (λ t. let a = pick t (onceOf c w m) (stops w (fault m r)) .after in pick t (runFrom 1 0 c w m) (run-after (ran (fault m r) 0) w) ≡ run-after (ran (a .state) (step-count (a .state .status))) (a .words)) (eqb r 0)
+    (λ _. once)
+    (λ e. rw (lt-leb r 1 (refusal-large c w e)))
+  where
+    r : ℕ
+    r = refusalOf c w
+
+    once : let a = onceOf c w m .after in runFrom 1 0 c w m ≡ run-after (ran (a .state) (step-count (a .state .status))) (a .words)
+    once =
+        let a = onceOf c w m .after in
+        let j = step-count (a .state .status) in
+        by-test (λ t. onward t (run-after (ran (done (a .state .machine)) (0 + j)) (a .words)) a (0 + j) ≡ run-after (ran (a .state) j) (a .words)) (eqb (a .state .status) 0)
+        (λ e. rw (zero-add j) (ap (λ (s : Stepped). run-after (ran s j) (a .words)) (sym (once-done c w m (eqb-true (a .state .status) 0 e)))))
+        (λ e. rw (zero-add j))
 
 -- ── two runs in a row ──
 
@@ -104,12 +124,12 @@ unfolding runFrom
 run-from-length zero k c w m = refl
 run-from-length (suc n) k c w m =
     let a = onceOf c w m .after in
-    go (eqb (a .state .status) 0) (eqb (a .state .status) 1) (runFrom n (k + 1) c (a .words) (a .state .machine)) a (once-length c w m) (run-from-length n (k + 1) c (a .words) (a .state .machine) ∙ once-length c w m)
+    let j = k + step-count (a .state .status) in
+    go (eqb (a .state .status) 0) j (runFrom n j c (a .words) (a .state .machine)) a (once-length c w m) (run-from-length n j c (a .words) (a .state .machine) ∙ once-length c w m)
   where
-    go : (t u : Bool) (more : RunAfter) (a : After) → length (a .words) ≡ length w → length (more .words) ≡ length w → length (onward t u more a k .words) ≡ length w
-    go true u more a p q = q
-    go false true more a p q = p
-    go false false more a p q = p
+    go : (t : Bool) (j : ℕ) (more : RunAfter) (a : After) → length (a .words) ≡ length w → length (more .words) ≡ length w → length (onward t more a j .words) ≡ length w
+    go true j more a p q = q
+    go false j more a p q = p
 
 pub run-length : (n : ℕ) (c w : List ℕ) (m : Machine) → length (runOf n c w m .words) ≡ length w
 unfolding runOf

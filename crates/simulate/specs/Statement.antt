@@ -6,7 +6,7 @@
 -- * one fixed image, or one that finishes at once: `ended`, with the D words of the source's own end; `sees` and `reaches`, with its trace.
 -- * doing nothing: `reaches`, for every access that the source comes to make; `ends`.
 -- * working only for the first instruction: `each` and `sees` are of every instruction of every list of calls, `reaches` of every number of moves.
--- * a made-up count: `counted`.
+-- * a made-up count, of a run or in the step rule: `counted`.
 -- * writing where it likes and putting things right at the end: `within`, `untouched`, `sp-low`, `sp-high`, of every instruction.
 use mathlib.Core.Path.{_≡_}
 use mathlib.Core.Bool.{true}
@@ -23,7 +23,7 @@ use Rattle.rules.specs.Code.{image}
 use Rattle.exec.specs.State.{base, needed, freshOf}
 use Rattle.exec.specs.Exec.{Effect}
 use Rattle.exec.specs.declared.Machine.{Machine}
-use Rattle.machine.specs.Step.{stepOf}
+use Rattle.machine.specs.Step.{step-count, stepOf}
 use Rattle.machine.specs.Run.{RunAfter, runOf}
 use Rattle.machine.specs.Start.{startOf}
 use Rattle.machine.specs.Trace.{listed}
@@ -73,8 +73,9 @@ pub record Called : Type 0 where
   pub count : ℕ
   pub tries : List Effect
 
+-- a step hands back no count: it is what the step rule counts it as, of which a run's count is the sum
 abbrev pub by-step : Effect → List Effect → Called
-by-step e es = record { machine = e .after .state .machine; words = e .after .words; status = e .after .state .status; count = 1; tries = es }
+by-step e es = record { machine = e .after .state .machine; words = e .after .words; status = e .after .state .status; count = step-count (e .after .state .status); tries = es }
 
 abbrev pub by-run : RunAfter → List Effect → Called
 by-run r es = record { machine = r .state .machine; words = r .words; status = r .state .status; count = r .state .count; tries = es }
@@ -106,7 +107,7 @@ called p memory ks = calls (image p) ks memory (started p memory)
 
 -- ── what holds ──
 
--- "no call is refused", and no fault ends one: status 0 or 1; the count is of the instructions that were tried, as none faults
+-- "no call is refused", and no fault ends one: status 0 or 1; every instruction that was tried counts, as none faults
 pub record Answered (a : Called) : Type 0 where
   pub not-refused : a .status < 2
   pub counted : a .count ≡ length (a .tries)

@@ -8,7 +8,7 @@ use Prim.Native.Nat.{ℕ, zero, suc, _+_, _≤_, _<_}
 use native.Mathlib.Omega.{arith}
 use lib.ListN.{getD, length, take, drop, length-drop}
 use lib.Seq.{getD-take, getD-drop, length-take-le, ext-getD}
-use borrow.Author.Tests.{eq-eqb, ne-eqb, le-ltb, eqb-true}
+use borrow.Author.Tests.{eq-eqb, ne-eqb, le-ltb, le-leb, eqb-true}
 use Rattle.word.specs.Access.{Access}
 use Rattle.program.specs.Tree.{Program}
 use Rattle.meaning.specs.Run.{End, going, finish, stopped, bad-subscript, State, move, moves, begin, ends-with}
@@ -16,7 +16,7 @@ use Rattle.rules.specs.Code.{image}
 use Rattle.exec.specs.State.{freshOf}
 use Rattle.exec.specs.Exec.{Effect, ended}
 use Rattle.exec.specs.declared.Machine.{Machine}
-use Rattle.machine.specs.Step.{refusalOf, stepOf}
+use Rattle.machine.specs.Step.{step-count, refusalOf, stepOf}
 use Rattle.machine.specs.Run.{RunAfter, run-after, ran, runFrom, runOf}
 use Rattle.machine.specs.Start.{startRefusal, startOf}
 use Rattle.machine.specs.Trace.{listed}
@@ -136,11 +136,11 @@ module _ (p : Program) (sound : Sound p) (short : length (image p) ≤ 65536) (m
 
     run-more : (k : ℕ) → effect-at E x .after .state .status ≡ 0 → runFrom (suc n) k (image p) (x .words) (x .state) ≡ runFrom n (k + 1) (image p) (step-point E x .words) (step-point E x .state)
     unfolding runFrom
-    run-more k e = rw (eq-eqb _ 0 e)
+    run-more k e = rw e
 
     run-last : (k : ℕ) → effect-at E x .after .state .status ≡ 1 → runFrom (suc n) k (image p) (x .words) (x .state) ≡ run-after (ran (effect-at E x .after .state) (k + 1)) (effect-at E x .after .words)
     unfolding runFrom
-    run-last k e = rw (ne-eqb (effect-at E x .after .state .status) 0 (omega arith), eq-eqb _ 1 e)
+    run-last k e = let s = effect-at E x .after .state .status in rw (ne-eqb s 0 (omega arith), le-leb s 1 (omega arith))
 
   tried-none : (w : List ℕ) (m : Machine) → tried 0 (image p) w m ≡ []
   unfolding tried
@@ -189,6 +189,9 @@ module _ (p : Program) (sound : Sound p) (short : length (image p) ≤ 65536) (m
   before : (x : Point) (a : Called) (more : List Called) (y : Point) → Chain E x (a .tries) y → Answered a → Lists y more → Lists x (a ∷ more)
   before x a more y c ans l = record { last = l .last; chain = chain-append c (l .chain); answered = (ans, l .answered) }
 
+  one-counted : (x : Point) → Sees x → step-count (effect-at E x .after .state .status) ≡ 1
+  one-counted x v = ⊎-elim (λ e. rw e) (λ e. rw e) (status-of x v)
+
   lists : (ks : List Call) (x : Point) → Sees x → Lists x (calls (image p) ks (x .words) (x .state))
   unfolding calls
   lists [] x v = record { last = x; chain = none; answered = tt }
@@ -197,7 +200,7 @@ module _ (p : Program) (sound : Sound p) (short : length (image p) ≤ 65536) (m
       let e = step-is x v in
       let l = lists ks (step-point E x) (later x v) in
       let one = tried-one x v in
-      before x a _ (step-point E x) (rw one (also none)) (record { not-refused = rw e (orderly x v .no-fault); counted = rw one refl }) (rw e l)
+      before x a _ (step-point E x) (rw one (also none)) (record { not-refused = rw e (orderly x v .no-fault); counted = rw (one, e) (one-counted x v) }) (rw e l)
   lists (run n ∷ ks) x v =
       let a = call (image p) (run n) (x .words) (x .state) in
       let e = run-is n x v in
