@@ -9,7 +9,8 @@ use Rattle.program.specs.Tree.{Program, data-words}
 use Rattle.program.specs.Depth.{deepest}
 use Rattle.program.specs.Rows.{table-of, row-count}
 use Rattle.program.specs.ReadBack.{Holds}
-use Rattle.front.specs.Front.{Outcome, refused, accepted, symbols, parsed}
+use Rattle.front.specs.Symbols.{symbols}
+use Rattle.front.specs.Front.{Outcome, refused, accepted, parsed}
 use Rattle.analysis.specs.declared.Analysis.{Analysis}
 use Rattle.analysis.specs.declared.Analysis.the-variants.{Refused, Accepted}
 

@@ -12,7 +12,7 @@ use Rattle.word.specs.Choice.{pick, by-test}
 use Rattle.token.specs.Tokens.{Entry, read, refused, scan, outcome, entries}
 use Rattle.grammar.specs.Grammar.{Token}
 use Rattle.grammar.specs.Tokens.{token-of, tokens, unread}
-use Rattle.front.specs.Front.{entry-at, place-of, text-of, symbols, unread-place}
+use Rattle.front.specs.Symbols.{entry-at, place-of, text-of, symbols, unread-place}
 use Rattle.name_table.specs.View.{text-at, place-at}
 
 -- a source that is read is short

@@ -25,7 +25,7 @@ use Rattle.names.specs.ResolvedRows.{resolve-rows, count-P, rows-P}
 use Rattle.names.specs.Depths.{same-deepest}
 use Rattle.front.specs.Front as front
 use Rattle.front.specs.Front.{judged}
-use Rattle.front.specs.Exact.{no-complaint}
+use Rattle.names.specs.Least.{least-none}
 use Rattle.name_table.specs.View.{Table, view, text-at, place-at}
 use Rattle.judging.specs.Judge.{or-else, first-append}
 use Rattle.binding.specs.Going.{Filled, Fills}
@@ -123,7 +123,7 @@ module _ (source kinds places values : List ℕ) where
       unfolding row-count table-of
       row-accepted h =
           let e : least (complaints text place p) ≡ fine = sym found-least ∙ rw (eq-eqb (f .number) 0 h) in
-          let none = no-complaint (complaints text place p) e in
+          let none = least-none (complaints text place p) e in
           let here : of-process text place b S ≡ [] = sym quiet ∙ none in
           let m = raw.declared-rows ss in
           let c = count-declared text ss empty-scope in

@@ -24,7 +24,8 @@ use Rattle.names.specs.Complaints.{complaints, least}
 use Rattle.names.specs.First.{first}
 use Rattle.names.specs.Resolve as resolve
 use Rattle.front.specs.Front as front
-use Rattle.front.specs.Front.{symbols, text-of, judged, named, parsed}
+use Rattle.front.specs.Symbols.{symbols, text-of}
+use Rattle.front.specs.Front.{judged, named, parsed}
 use Rattle.front.specs.Refused.{least-first-in-text}
 use Rattle.reader.specs.Answer.{answer, Written, process-start}
 use Rattle.reader.specs.declared.Answer.the-variants as read

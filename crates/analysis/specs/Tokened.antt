@@ -8,7 +8,8 @@ use Rattle.token.specs.Tokens as token
 use Rattle.token.specs.Tokens.{Entry, outcome, entries}
 use Rattle.token.specs.SourceLaws as source-laws
 use Rattle.grammar.specs.Automaton.{reads}
-use Rattle.front.specs.Front.{refused, symbols, parsed, tokened, front}
+use Rattle.front.specs.Symbols.{symbols}
+use Rattle.front.specs.Front.{refused, parsed, tokened, front}
 use Rattle.analysis.specs.Arrays.{length-entries}
 
 module _ (source : List ℕ) (table code : ℕ) where

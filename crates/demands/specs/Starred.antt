@@ -14,7 +14,8 @@ use Rattle.names.specs.Scope.{lookup}
 use Rattle.program.specs.Tree.{Diadic, less, left, data-words}
 use Rattle.program.specs.Depth.{deepest}
 use Rattle.program.specs.Rows.{rows, count, rows-process, count-process, declared-rows, table-of}
-use Rattle.front.specs.Front.{Outcome, refused, accepted, entry-at, symbols, unread-place, named, front}
+use Rattle.front.specs.Symbols.{entry-at, symbols, unread-place}
+use Rattle.front.specs.Front.{Outcome, refused, accepted, named, front}
 use Rattle.meaning.specs.Operators.{work-diadic}
 use Rattle.exec.specs.State.{needed}
 use Rattle.thumb.specs.declared.Instr.{Instr}

@@ -7,10 +7,10 @@ use lib.ListN.{length, take}
 use Rattle.token.specs.Tokens.{Entry}
 use Rattle.grammar.specs.Grammar as grammar
 use Rattle.program.specs.Tree.{Program}
-use Rattle.front.specs.Front.{Outcome, refused, accepted, front, text-of}
-use Rattle.front.specs.Exact.{IsX, Room}
-use Rattle.front.specs.Refused.{Refusal}
 use Rattle.names.specs.Resolve.{resolve}
+use Rattle.front.specs.Symbols.{text-of}
+use Rattle.front.specs.IsX.{IsX, Room}
+use Rattle.front.specs.Deserved.{Deserves, FirstDeserved, Numbered}
 use Rattle.rules.specs.Code.{image}
 use Rattle.translate.specs.Translate.{Translated, translation, zeros}
 use Rattle.thumb.specs.Code.{encodeOf, decodeOf}
@@ -24,11 +24,11 @@ use Rattle.simulate.specs.Statement.{D, N, Lent, Demand3}
 -- ── demand 1: everything is answered ──
 
 -- "A bad source is refused with one number and one place ... and leaves table and image all zero"; "its counts are all 0"
-pub record RefusedWhole (source : List ℕ) (table code : ℕ) (o : Outcome) (t : Translated) : Type 0 where
-  -- "in document 01's order": the number and place are those that `front` comes to
-  pub by-order : o ≡ refused (t .answer .status) (t .answer .place)
+pub record Refused (source : List ℕ) (table code n p : ℕ) (t : Translated) : Type 0 where
+  pub status : t .answer .status ≡ n
+  pub place : t .answer .place ≡ p
   -- the number is 1 to 14, the place a byte of the source or its length
-  pub numbered : Refusal source (t .answer .status) (t .answer .place)
+  pub numbered : Numbered source n p
   pub table-zero : t .table ≡ zeros table
   pub code-zero : t .code ≡ zeros code
   pub no-tokens : t .answer .tokens ≡ 0
@@ -43,23 +43,18 @@ pub record Unchanged (code words : List ℕ) (m : Machine) : Type 0 where
   pub memory : stepOf code words m .after .words ≡ words
 
 pub record Demand1 : Type 0 where
-  pub refuses : (source : List ℕ) (table code : ℕ) → 0 < translation source table code .answer .status → RefusedWhole source table code (front source table code) (translation source table code)
+  -- "in document 01's order": what is deserved first is what is answered, and nothing else
+  pub refuses : (source : List ℕ) (table code n p : ℕ) → FirstDeserved source table code n p → Refused source table code n p (translation source table code)
+  pub refused-first : (source : List ℕ) (table code : ℕ) → 0 < translation source table code .answer .status
+      → FirstDeserved source table code (translation source table code .answer .status) (translation source table code .answer .place)
+  -- "A refusal is given in no other case"
+  pub accepts : (source : List ℕ) (table code : ℕ) → ((n p : ℕ) → Deserves source table code n p → ⊥) → translation source table code .answer .status ≡ 0
+  pub accepted-spared : (source : List ℕ) (table code : ℕ) → translation source table code .answer .status ≡ 0 → (n p : ℕ) → Deserves source table code n p → ⊥
   pub faulted : (code words : List ℕ) (m : Machine) → 0 < stepOf code words m .after .state .status → Unchanged code words m
 
 -- ── demand 2: exactly X, exactly Arm ──
 
--- a source that the translation accepted, as this program
-pub record Translates (source : List ℕ) (table code : ℕ) (p : Program) : Type 0 where
-  pub status : translation source table code .answer .status ≡ 0
-  pub place : translation source table code .answer .place ≡ 0
-  pub front-end : (n : ℕ) × (front source table code ≡ accepted n p)
-  -- "The source's own numbers are those that start takes, D and N": the answer has them
-  pub data-words : translation source table code .answer .«data» ≡ D p
-  pub depth : translation source table code .answer .depth ≡ N p
-  -- "the image as code" is the first bytes of the code buffer, as many as the answer says
-  pub image-bytes : take (translation source table code .answer .code) (translation source table code .code) ≡ image p
-
--- X by grammar, names and limits, as this program
+-- X by grammar, names and limits, with room, as this program
 pub record XAs (source : List ℕ) (table code : ℕ) (p : Program) : Type 0 where
   pub ts : List Entry
   pub tree : grammar.Program
@@ -67,11 +62,20 @@ pub record XAs (source : List ℕ) (table code : ℕ) (p : Program) : Type 0 whe
   pub room : Room (length ts) table code
   pub resolved : p ≡ resolve (text-of source ts) tree
 
+-- a source that the translation accepted, as this program
+pub record Translates (source : List ℕ) (table code : ℕ) (p : Program) : Type 0 where
+  pub is-X : XAs source table code p
+  pub status : translation source table code .answer .status ≡ 0
+  pub place : translation source table code .answer .place ≡ 0
+  -- "The source's own numbers are those that start takes, D and N": the answer has them
+  pub data-words : translation source table code .answer .«data» ≡ D p
+  pub depth : translation source table code .answer .depth ≡ N p
+  -- "the image as code" is the first bytes of the code buffer, as many as the answer says
+  pub image-bytes : take (translation source table code .answer .code) (translation source table code .code) ≡ image p
+
 pub record Demand2 : Type 0 where
-  -- "status 0, place 0 is accepted": what has status 0 was translated
-  pub status-0 : (source : List ℕ) (table code : ℕ) → translation source table code .answer .status ≡ 0 → (p : Program) × Translates source table code p
-  -- "With room, a source is accepted exactly if it is X by grammar, names and limits"
-  pub accepted-is-X : (source : List ℕ) (table code : ℕ) (p : Program) → Translates source table code p → XAs source table code p
+  -- "With room, a source is accepted exactly if it is X by grammar, names and limits"; "Status 0, place 0 is accepted"
+  pub accepted-is-X : (source : List ℕ) (table code : ℕ) → translation source table code .answer .status ≡ 0 → (p : Program) × Translates source table code p
   pub X-is-accepted : (source : List ℕ) (table code : ℕ) (p : Program) → XAs source table code p → Translates source table code p
   -- "Each instruction is encoded and read back as Arm's manual says": the table is thumb's; both ways round it is the same
   pub decoded : (i : Instr) → encodeOf i .status ≡ 0 → decodeOf (encodeOf i .first) (encodeOf i .second) ≡ Known i

@@ -1,7 +1,7 @@
--- With room a source is accepted exactly if it is X, and what is accepted is a sound program. Statements (IsX) and laws; assumes nothing.
+-- With room a source is accepted exactly if it is X, and what is accepted is a sound program. Laws; assumes nothing.
 use mathlib.Core.Path.{_≡_, refl, ap, _∙_}
 use mathlib.Core.Bool.{Bool, true, false}
-use mathlib.Core.List.{List, [], _∷_}
+use mathlib.Core.List.{List}
 use Prim.Native.Nat.{ℕ, _+_, _*_, _≤_, max}
 use native.Mathlib.Omega.{arith}
 use lib.Dec.{ltb}
@@ -11,29 +11,18 @@ use Rattle.word.specs.Choice.{pick}
 use Rattle.token.specs.Tokens as token
 use Rattle.token.specs.Tokens.{Entry}
 use Rattle.grammar.specs.Grammar as grammar
-use Rattle.grammar.specs.Grammar.{text-program, well-formed}
 use Rattle.grammar.specs.Automaton as automaton
 use Rattle.grammar.specs.Automaton.{reads}
 use Rattle.grammar.specs.Exact.{accepts, accepted-text}
 use Rattle.grammar.specs.Depth.{depth, deepest}
 use Rattle.program.specs.Tree.{Program}
 use Rattle.names.specs.Complaints as names
-use Rattle.names.specs.Complaints.{Complaint, complaints, least, lesser}
+use Rattle.names.specs.Complaints.{complaints, least}
+use Rattle.names.specs.Least.{least-none}
 use Rattle.names.specs.Resolve.{resolve}
-use Rattle.front.specs.Front.{Outcome, refused, accepted, place-of, text-of, symbols, judged, named, parsed, tokened, front}
-
--- a source that is X: it has tokens, they are the text of a program, within the depth, and nothing is wrong with its names
-pub record IsX (source : List ℕ) (ts : List Entry) (p : grammar.Program) : Type 0 where
-  pub tokens : token.outcome source ≡ token.read ts
-  pub proper : well-formed p
-  pub grammatical : symbols ts 0 ≡ text-program p
-  pub shallow : max (depth p) (deepest p) ≤ 32
-  pub nameable : complaints (text-of source ts) (place-of ts) p ≡ []
-
--- room for so many tokens
-pub record Room (tokens table code : ℕ) : Type 0 where
-  pub rows : 4 * tokens ≤ table
-  pub image : 48 * tokens + 256 ≤ code
+use Rattle.front.specs.Symbols.{place-of, text-of, symbols}
+use Rattle.front.specs.IsX.{IsX, Room}
+use Rattle.front.specs.Front.{Outcome, refused, accepted, judged, named, parsed, tokened, front}
 
 -- X is accepted
 pub accepts-X : (source : List ℕ) (ts : List Entry) (p : grammar.Program) (table code : ℕ) → IsX source ts p → Room (length ts) table code
@@ -57,19 +46,6 @@ pub record Accepted (source : List ℕ) (table code n : ℕ) (q : Program) : Typ
 not-accepted : {A : Type 0} (k l n : ℕ) (q : Program) → refused k l ≡ accepted n q → A
 not-accepted k l n q h = let z : _≡_ {A = ℕ} 0 1 = cc in absurd (omega arith)
 
-pub no-complaint : (cs : List Complaint) → least cs ≡ names.fine → cs ≡ []
-unfolding least
-no-complaint [] h = refl
-no-complaint (c ∷ cs) h = by (least cs) h
-  where
-    choice : (b : Bool) (d : Complaint) → pick b (names.refused c) (names.refused d) ≡ names.fine → c ∷ cs ≡ []
-    choice true d h = let z : _≡_ {A = ℕ} 0 1 = cc in absurd (omega arith)
-    choice false d h = let z : _≡_ {A = ℕ} 0 1 = cc in absurd (omega arith)
-
-    by : (v : names.Verdict) → lesser c v ≡ names.fine → c ∷ cs ≡ []
-    by names.fine h = let z : _≡_ {A = ℕ} 0 1 = cc in absurd (omega arith)
-    by (names.refused d) h = choice (names.earlier c d) d h
-
 -- accepted is X
 pub accepted-is-X : (source : List ℕ) (table code n : ℕ) (q : Program) → front source table code ≡ accepted n q → Accepted source table code n q
 unfolding front named
@@ -84,7 +60,7 @@ accepted-is-X source table code n q h = by-tokens (token.outcome source) refl h
           ts = ts;
           tree = p;
           room = r;
-          is-X = record { tokens = e; proper = t .1; grammatical = t .0; shallow = d; nameable = no-complaint _ k };
+          is-X = record { tokens = e; proper = t .1; grammatical = t .0; shallow = d; nameable = least-none _ k };
           count = cc;
           program = cc;
         }

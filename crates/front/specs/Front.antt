@@ -1,13 +1,12 @@
 -- What a source comes to: the resolved program, or one refusal, in document 01's order. Definitions; rests on tokens, grammar and names.
-use mathlib.Core.List.{List, [], _∷_}
-use Prim.Native.Nat.{ℕ, zero, suc, _+_, _*_}
-use lib.Dec.{ltb, leb}
-use lib.ListN.{length, take, drop}
+use mathlib.Core.List.{List}
+use Prim.Native.Nat.{ℕ, _+_, _*_}
+use lib.Dec.{ltb}
+use lib.ListN.{length}
 use Rattle.word.specs.Choice.{pick}
 use Rattle.token.specs.Tokens as token
 use Rattle.token.specs.Tokens.{Entry}
 use Rattle.grammar.specs.Grammar as grammar
-use Rattle.grammar.specs.Tokens.{token-of}
 use Rattle.grammar.specs.Automaton as automaton
 use Rattle.grammar.specs.Automaton.{reads}
 use Rattle.grammar.specs.Depth.{too-deep}
@@ -15,36 +14,12 @@ use Rattle.program.specs.Tree.{Program}
 use Rattle.names.specs.Complaints as names
 use Rattle.names.specs.Complaints.{complaints, least}
 use Rattle.names.specs.Resolve.{resolve}
+use Rattle.front.specs.Symbols.{place-of, text-of, symbols, unread-place}
 
 -- a source is refused, by number and place, or accepted, with its number of tokens and its program
 pub data Outcome : Type 0 where
   refused : ℕ → ℕ → Outcome
   accepted : ℕ → Program → Outcome
-
--- ── tokens as the grammar and the names see them ──
-
--- the token with number t; past the last one an empty one
-unfoldable pub entry-at : List Entry → ℕ → Entry
-entry-at [] t = record { kind = 0; place = 0; value = 0 }
-entry-at (e ∷ es) zero = e
-entry-at (e ∷ es) (suc t) = entry-at es t
-
--- where token t stands, and its bytes: a name token's value is its length
-abbrev pub place-of : List Entry → ℕ → ℕ
-place-of ts t = entry-at ts t .place
-
-abbrev pub text-of : List ℕ → List Entry → ℕ → List ℕ
-text-of source ts t = take (entry-at ts t .value) (drop (entry-at ts t .place) source)
-
--- the grammar's tokens, the first with number i
-unfoldable pub symbols : List Entry → ℕ → List grammar.Token
-symbols [] i = []
-symbols (e ∷ es) i = token-of i (e .kind) (e .value) ∷ symbols es (suc i)
-
--- refusal 6: "it, or the source length": the place of the token that so many stand unread from, itself included
-unfoldable pub unread-place : List Entry → ℕ → ℕ → ℕ
-unread-place [] unread end = end
-unread-place (e ∷ es) unread end = pick (leb (length (e ∷ es)) unread) (e .place) (unread-place es unread end)
 
 -- ── the order: "1 comes first; then 2 to 5 ...; then 13, 14, 6, 7; then 8 to 12" ──
 

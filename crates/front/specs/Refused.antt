@@ -1,12 +1,12 @@
--- What a refusal says: its number is 1 to 14 and its place in the source; 6 stands at the first token that no program continues with; 8 to 12 are the least complaint. Laws; assumes nothing.
-use mathlib.Core.Path.{_≡_, refl, ap, subst, _∙_}
+-- What a refusal says: its number is 1 to 14 and its place in the source; 8 to 12 are the least complaint. Laws; assumes nothing.
+use mathlib.Core.Path.{_≡_, refl, ap, subst}
 use mathlib.Core.Bool.{Bool, true, false}
 use mathlib.Core.List.{List, [], _∷_}
 use Prim.Native.Nat.{ℕ, zero, suc, _+_, _*_, _<_, _≤_, max}
 use native.Mathlib.Omega.{arith}
 use lib.Dec.{eqb, ltb, leb}
 use lib.ListN.{length}
-use borrow.Author.Tests.{le-ltb, eqb-true}
+use borrow.Author.Tests.{eqb-true}
 use Rattle.word.specs.Choice.{pick, by-test}
 use Rattle.spelling.specs.Kinds as kind
 use Rattle.token.specs.Tokens as token
@@ -18,7 +18,6 @@ use Rattle.grammar.specs.Grammar.{Token, number, name, mark, text-program}
 use Rattle.grammar.specs.Tokens.{token-of}
 use Rattle.grammar.specs.Automaton as automaton
 use Rattle.grammar.specs.Automaton.{reads}
-use Rattle.grammar.specs.Exact.{First, refused-first}
 use Rattle.program.specs.Tree.{Program}
 use Rattle.program.specs.Sound.{Sound}
 use Rattle.grammar.specs.Depth.{depth, deepest}
@@ -30,8 +29,10 @@ use Rattle.names.specs.First.{first}
 use Rattle.names.specs.Order.{names-of, Ahead, Ascending, least-is-first}
 use Rattle.names.specs.Accepted.{Words, sound}
 use Rattle.names.specs.Depths.{same-deepest}
-use Rattle.front.specs.Front.{Outcome, refused, accepted, judged, named, entry-at, place-of, text-of, symbols, unread-place, parsed, tokened, front}
-use Rattle.front.specs.Exact.{Room, accepted-is-X}
+use Rattle.front.specs.Symbols.{entry-at, place-of, text-of, symbols, unread-place}
+use Rattle.front.specs.Deserved.{Numbered}
+use Rattle.front.specs.Front.{Outcome, refused, accepted, judged, named, parsed, tokened, front}
+use Rattle.front.specs.Exact.{accepted-is-X}
 
 -- the tokens of a source stand in it, one after another
 placed : (source : List ℕ) (ts : List Entry) → token.outcome source ≡ token.read ts → Placed (length source) 0 ts
@@ -116,37 +117,13 @@ pub least-first-in-text : (source : List ℕ) (ts : List Entry) (p : grammar.Pro
 least-first-in-text source ts p e g =
     least-is-first (text-of source ts) (place-of ts) p (rw g at (ascends (place-of ts) (length source) 0 0 ts (placed source ts e) (found ts)))
 
--- ── refusal 6 ──
-
--- where 6 is given: the tokens, those left unread, and the place; `First` says that they begin where no program continues
-pub record Ungrammatical (source : List ℕ) (at : ℕ) : Type 0 where
-  pub ts : List Entry
-  pub unread : List Token
-  pub tokens : token.outcome source ≡ token.read ts
-  pub first-bad : First (symbols ts 0) unread
-  pub place : at ≡ unread-place ts (length unread) (length source)
-
--- with room, a source whose tokens are no program is refused by 6 at the first token that no program continues with
-pub refuses-6 : (source : List ℕ) (ts : List Entry) (u : List Token) (table code : ℕ) → token.outcome source ≡ token.read ts → Room (length ts) table code → reads (symbols ts 0) ≡ automaton.refused u
-    → (front source table code ≡ refused 6 (unread-place ts (length u) (length source))) × Ungrammatical source (unread-place ts (length u) (length source))
-unfolding front
-refuses-6 source ts u table code e r h = (
-  ap (tokened source table code) e ∙ rw (le-ltb table (4 * length ts) (r .rows), le-ltb code (48 * length ts + 256) (r .image)) (ap (parsed source ts) h),
-  record { ts = ts; unread = u; tokens = e; first-bad = refused-first (symbols ts 0) u h; place = refl },
-)
-
 -- ── every refusal has a number from 1 to 14, and a place in the source ──
 
-pub record Refusal (source : List ℕ) (n at : ℕ) : Type 0 where
-  pub low : 1 ≤ n
-  pub high : n ≤ 14
-  pub inside : at ≤ length source
+abbrev Answered : List ℕ → Outcome → Type 0
+Answered source (refused n at) = Numbered source n at
+Answered source (accepted n p) = Unit {0}
 
-abbrev Numbered : List ℕ → Outcome → Type 0
-Numbered source (refused n at) = Refusal source n at
-Numbered source (accepted n p) = Unit {0}
-
-places-inside : (size p : ℕ) (ts : List Entry) (k : ℕ) → Placed size p ts → place-of ts k ≤ size
+pub places-inside : (size p : ℕ) (ts : List Entry) (k : ℕ) → Placed size p ts → place-of ts k ≤ size
 unfolding entry-at
 places-inside size p ts k source-laws.none = omega arith
 places-inside size p _ zero (source-laws.some t l h q) = omega (arith, h .inside)
@@ -158,30 +135,30 @@ unread-inside size p ts u source-laws.none = omega arith
 unread-inside size p _ u (source-laws.some t {ts = ts} l h q) =
     by-test (λ (b : Bool). pick b (t .place) (unread-place ts u size) ≤ size) (leb (length (t ∷ ts)) u) (λ e. omega (arith, h .inside)) (λ e. unread-inside size (t .place + 1) ts u q)
 
-judged-numbered : (source : List ℕ) (v : Verdict) (n : ℕ) (q : Program) → Judged (length source) v → Numbered source (judged v n q)
+judged-numbered : (source : List ℕ) (v : Verdict) (n : ℕ) (q : Program) → Judged (length source) v → Answered source (judged v n q)
 judged-numbered source fine n q h = tt
 judged-numbered source (names.refused c) n q h = record { low = omega (arith, h .low); high = omega (arith, h .high); inside = h .inside }
 
-named-numbered : (source : List ℕ) (ts : List Entry) (p : grammar.Program) → Placed (length source) 0 ts → Numbered source (named source ts p)
+named-numbered : (source : List ℕ) (ts : List Entry) (p : grammar.Program) → Placed (length source) 0 ts → Answered source (named source ts p)
 unfolding named
 named-numbered source ts p h =
-    by-test (λ (b : Bool). Numbered source (pick b (refused 7 0) (judged (least (complaints (text-of source ts) (place-of ts) p)) (length ts) (resolve (text-of source ts) p)))) (ltb 32 (max (depth p) (deepest p)))
+    by-test (λ (b : Bool). Answered source (pick b (refused 7 0) (judged (least (complaints (text-of source ts) (place-of ts) p)) (length ts) (resolve (text-of source ts) p)))) (ltb 32 (max (depth p) (deepest p)))
     (λ e. record { low = omega arith; high = omega arith; inside = omega arith })
     (λ e. judged-numbered source (least (complaints (text-of source ts) (place-of ts) p)) (length ts) _ (judged-within (text-of source ts) (place-of ts) (length source) (λ k. places-inside (length source) 0 ts k h) p))
 
-parsed-numbered : (source : List ℕ) (ts : List Entry) (r : automaton.Reading) → Placed (length source) 0 ts → Numbered source (parsed source ts r)
+parsed-numbered : (source : List ℕ) (ts : List Entry) (r : automaton.Reading) → Placed (length source) 0 ts → Answered source (parsed source ts r)
 parsed-numbered source ts (automaton.accepted p) h = named-numbered source ts p h
 parsed-numbered source ts (automaton.refused u) h = record { low = omega arith; high = omega arith; inside = unread-inside (length source) 0 ts (length u) h }
 
-tokened-numbered : (source : List ℕ) (table code : ℕ) (o : token.Outcome) → source-laws.Sound (length source) 0 o → Numbered source (tokened source table code o)
+tokened-numbered : (source : List ℕ) (table code : ℕ) (o : token.Outcome) → source-laws.Sound (length source) 0 o → Answered source (tokened source table code o)
 tokened-numbered source table code (token.refused n p) h = record { low = h .0; high = omega (arith, h .1); inside = h .2 }
 tokened-numbered source table code (token.read ts) h =
-    by-test (λ (b : Bool). Numbered source (pick b (refused 13 0) (pick (ltb code (48 * length ts + 256)) (refused 14 0) (parsed source ts (reads (symbols ts 0)))))) (ltb table (4 * length ts))
+    by-test (λ (b : Bool). Answered source (pick b (refused 13 0) (pick (ltb code (48 * length ts + 256)) (refused 14 0) (parsed source ts (reads (symbols ts 0)))))) (ltb table (4 * length ts))
     (λ e. record { low = omega arith; high = omega arith; inside = omega arith })
     (λ e.
-    by-test (λ (b : Bool). Numbered source (pick b (refused 14 0) (parsed source ts (reads (symbols ts 0))))) (ltb code (48 * length ts + 256))
+    by-test (λ (b : Bool). Answered source (pick b (refused 14 0) (parsed source ts (reads (symbols ts 0))))) (ltb code (48 * length ts + 256))
     (λ e. record { low = omega arith; high = omega arith; inside = omega arith }) (λ e. parsed-numbered source ts (reads (symbols ts 0)) h))
 
-pub refusal : (source : List ℕ) (table code n at : ℕ) → front source table code ≡ refused n at → Refusal source n at
+pub refusal : (source : List ℕ) (table code n at : ℕ) → front source table code ≡ refused n at → Numbered source n at
 unfolding front
-refusal source table code n at e = subst (Numbered source) e (tokened-numbered source table code (token.outcome source) (outcome-sound source))
+refusal source table code n at e = subst (Answered source) e (tokened-numbered source table code (token.outcome source) (outcome-sound source))

@@ -8,6 +8,7 @@ pub mod Moves
 pub mod Front
 pub mod Sound
 pub mod Complete
+pub mod First
 pub mod Exact
 pub mod RowLaws
 pub mod Unread

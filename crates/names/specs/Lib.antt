@@ -6,6 +6,7 @@ pub mod Accepted
 pub mod ResolvedRows
 pub mod Depths
 pub mod First
+pub mod Least
 pub mod Order
 pub mod RowComplaints
 pub mod Specified

@@ -1,6 +1,8 @@
 -- The tokens of a source: what stands at the front of a byte string, the token list and its laws.
 pub mod Lexemes
 pub mod Tokens
+pub mod Split
 pub mod LexemeLaws
 pub mod TokenLaws
 pub mod SourceLaws
+pub mod SplitLaws

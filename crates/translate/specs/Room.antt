@@ -10,7 +10,8 @@ use Rattle.grammar.specs.Grammar as grammar
 use Rattle.program.specs.Tree as tree
 use Rattle.grammar.specs.FewRows.{few-P, few-Ss}
 use Rattle.program.specs.Rows.{row-count}
-use Rattle.front.specs.Front.{symbols, text-of, place-of, accepted, front}
+use Rattle.front.specs.Symbols.{symbols, text-of, place-of}
+use Rattle.front.specs.Front.{accepted, front}
 use Rattle.front.specs.Exact.{accepted-is-X}
 use Rattle.front.specs.Count.{few-tokens}
 use Rattle.rules.specs.Room.{image-room}

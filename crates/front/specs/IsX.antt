@@ -1,0 +1,23 @@
+-- When a source is X, and the room that it takes. Definitions; rests on tokens, grammar and names.
+use mathlib.Core.Path.{_≡_}
+use mathlib.Core.List.{List, []}
+use Prim.Native.Nat.{ℕ, _+_, _*_, _≤_, max}
+use Rattle.token.specs.Tokens as token
+use Rattle.token.specs.Tokens.{Entry}
+use Rattle.grammar.specs.Grammar.{Program, text-program, well-formed}
+use Rattle.grammar.specs.Depth.{depth, deepest}
+use Rattle.names.specs.Complaints.{complaints}
+use Rattle.front.specs.Symbols.{place-of, text-of, symbols}
+
+-- a source that is X: it has tokens, they are the text of a program, within the depth, and nothing is wrong with its names
+pub record IsX (source : List ℕ) (ts : List Entry) (p : Program) : Type 0 where
+  pub tokens : token.outcome source ≡ token.read ts
+  pub proper : well-formed p
+  pub grammatical : symbols ts 0 ≡ text-program p
+  pub shallow : max (depth p) (deepest p) ≤ 32
+  pub nameable : complaints (text-of source ts) (place-of ts) p ≡ []
+
+-- room for so many tokens: "4 x tokens words", "48 x tokens + 256 bytes"
+pub record Room (tokens table code : ℕ) : Type 0 where
+  pub rows : 4 * tokens ≤ table
+  pub image : 48 * tokens + 256 ≤ code
