@@ -2,3 +2,4 @@
 pub mod Statement
 pub mod Proof
 pub mod Starred
+pub mod Example

@@ -72,7 +72,7 @@ module _ (source : List ℕ) (table code n : ℕ) (p : Program) (e : front sourc
       let a = exact.accepted-is-X source table code n p e in
       record { ts = a .ts; tree = a .tree; is-X = a .is-X; room = a .room; resolved = a .program }
 
-  front-translates : Translates source table code p
+  pub front-translates : Translates source table code p
   unfolding translation
   front-translates =
       record {

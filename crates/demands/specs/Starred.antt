@@ -2,7 +2,10 @@
 use mathlib.Core.Path.{_≡_, refl}
 use mathlib.Core.List.{List, [], _∷_, map}
 use Prim.Native.Nat.{ℕ}
-use Rattle.word.specs.Word.{shift-left, signed-less}
+use lib.ListN.{take, replicate}
+use lib.Count.{trailingZeros, leadingZeros}
+use Rattle.word.specs.Word.{shift-left, shift-right}
+use Rattle.text.specs.Ascii.{ascii}
 use Rattle.spelling.specs.Characters.{one-of, digit-value, name-character, span, numeral}
 use Rattle.spelling.specs.Words.{same, word, middle-word, late-word}
 use Rattle.token.specs.Lexemes as lexemes
@@ -11,22 +14,35 @@ use Rattle.token.specs.Tokens.{scan, outcome}
 use Rattle.grammar.specs.Automaton.{run, reads}
 use Rattle.names.specs.Complaints.{least}
 use Rattle.names.specs.Scope.{lookup}
-use Rattle.program.specs.Tree.{Diadic, less, left, data-words}
+use Rattle.program.specs.Tree.{data-words}
 use Rattle.program.specs.Depth.{deepest}
-use Rattle.program.specs.Rows.{rows, count, rows-process, count-process, declared-rows, table-of}
+use Rattle.program.specs.Rows.{rows, count, rows-process, count-process, declared-rows, table-of, row-count}
 use Rattle.front.specs.Symbols.{entry-at, symbols, unread-place}
 use Rattle.front.specs.Front.{Outcome, refused, accepted, named, front}
-use Rattle.meaning.specs.Operators.{work-diadic}
-use Rattle.exec.specs.State.{needed}
+use Rattle.rules.specs.Bytes.{bytes-of, bytes, size}
+use Rattle.rules.specs.Constant.{load-constant}
+use Rattle.rules.specs.Blocks.{push-constant, less-than, far-shift, work-diadic-code, assign-variable}
+use Rattle.rules.specs.Code.{expression-code, process-code, image-code, image}
+use Rattle.translate.specs.Translate.{Translated, translation}
+use Rattle.translate.specs.declared.Translation.{Translation}
+use Rattle.exec.specs.State.{needed, next, takes, result, jump, branch, freshOf}
+use Rattle.exec.specs.State as state
+use Rattle.exec.specs.Exec as exec
+use Rattle.exec.specs.Exec.{slotOf, executeOf}
+use Rattle.machine.specs.Step.{withSecond, fetchOf, onceOf, refusalOf}
+use Rattle.machine.specs.Run.{RunAfter, runFrom, runOf}
+use Rattle.machine.specs.Start.{startRefusal, startOf}
+use Rattle.machine.specs.declared.Started.{Started}
 use Rattle.thumb.specs.declared.Instr.{Instr}
 use Rattle.thumb.specs.declared.Instr.the-variants.{Movi, Addr, Subr, Stri, Shri, Bu, Bl}
 use Rattle.thumb.specs.declared.Encoded.{Encoded}
-use Rattle.thumb.specs.Code.{encodeOf, put, put-long, swap32, narrow}
+use Rattle.thumb.specs.Bytes.{encoded-bytes}
+use Rattle.thumb.specs.Code.{encodeOf, decodeOf, find, table, put, put-long, swap32, narrow, widen}
 
--- a source's bytes, an operator between two words, an instruction
+-- a source's bytes, translated; a source's bytes, translated and run to its end; an instruction
 pub data Case : Type 0 where
   translating : List ℕ → Case
-  working : Diadic → ℕ → ℕ → Case
+  running : List ℕ → Case
   encoding : Instr → Case
 
 -- status and place, and of an accepted source its tokens, D, N, needed words and rows
@@ -34,24 +50,38 @@ abbrev pub seen : Outcome → List ℕ
 seen (refused n p) = n ∷ p ∷ []
 seen (accepted n q) = 0 ∷ 0 ∷ n ∷ data-words (q .declarations) ∷ deepest (q .body) ∷ needed (data-words (q .declarations)) (deepest (q .body)) ∷ table-of q
 
+-- what the public calls come to one after another: translate, start on the needed words, all 0, by the answer's D and N, and a run of at most 100 instructions:
+-- the three statuses, the SVC's number and the D words
+abbrev pub ended : Translation → ℕ → RunAfter → List ℕ
+ended t start r = t .status ∷ start ∷ r .state .status ∷ r .state .number ∷ take (t .«data») (r .words)
+
+abbrev pub run-image : Translation → List ℕ → List ℕ → Started → List ℕ
+run-image t code memory s = ended t (s .status) (runOf 100 code memory (s .machine))
+
+abbrev pub run-on : Translation → List ℕ → List ℕ → List ℕ
+run-on t code memory = run-image t code memory (startOf code memory (t .«data») (t .depth))
+
+abbrev pub run-all : Translated → List ℕ
+run-all t = run-on (t .answer) (take (t .answer .code) (t .code)) (replicate (needed (t .answer .«data») (t .answer .depth)) 0)
+
 -- status, count of halfwords and the halfwords
 abbrev pub halfwords : Encoded → List ℕ
 halfwords e = e .status ∷ e .count ∷ e .first ∷ e .second ∷ []
 
 abbrev pub comes-to : Case → List ℕ
 comes-to (translating s) = seen (front s 32 640)
-comes-to (working o x y) = work-diadic o x y ∷ []
+comes-to (running s) = run-all (translation s 32 640)
 comes-to (encoding i) = halfwords (encodeOf i)
 
--- `var x; x := 2 + 3`, the empty source, `x := 1`, `{skip;}`; `#80000000 < 1`, `1 << 256`; MOVI r0,5, ADDR r0,r1,r2, SUBR r3,r4,r5, STRI r0 to r7 offset 4, SHRI r0,r0,31, BU and BL to itself
+-- `var x; x := 2 + 3`, the empty source, `x := 1`, `{skip;}`; `#80000000 < 1` and `1 << 256`, each assigned to a variable; MOVI r0,5, ADDR r0,r1,r2, SUBR r3,r4,r5, STRI r0 to r7 offset 4, SHRI r0,r0,31, BU and BL to itself
 abbrev pub cases : List Case
 cases =
-    translating (118 ∷ 97 ∷ 114 ∷ 32 ∷ 120 ∷ 59 ∷ 32 ∷ 120 ∷ 32 ∷ 58 ∷ 61 ∷ 32 ∷ 50 ∷ 32 ∷ 43 ∷ 32 ∷ 51 ∷ [])
-    ∷ translating []
-    ∷ translating (120 ∷ 32 ∷ 58 ∷ 61 ∷ 32 ∷ 49 ∷ [])
-    ∷ translating (123 ∷ 115 ∷ 107 ∷ 105 ∷ 112 ∷ 59 ∷ 125 ∷ [])
-    ∷ working less 0x80000000 1
-    ∷ working left 1 256
+    translating (ascii "var x; x := 2 + 3")
+    ∷ translating (ascii "")
+    ∷ translating (ascii "x := 1")
+    ∷ translating (ascii "{skip;}")
+    ∷ running (ascii "var x; x := #80000000 < 1")
+    ∷ running (ascii "var x; x := 1 << 256")
     ∷ encoding (Movi 0 5)
     ∷ encoding (Addr 2 1 0)
     ∷ encoding (Subr 5 4 3)
@@ -67,8 +97,8 @@ answers =
     ∷ (6 ∷ 0 ∷ [])
     ∷ (8 ∷ 0 ∷ [])
     ∷ (6 ∷ 6 ∷ [])
-    ∷ (0xFFFFFFFF ∷ [])
-    ∷ (0 ∷ [])
+    ∷ (0 ∷ 0 ∷ 1 ∷ 0 ∷ 0xFFFFFFFF ∷ [])
+    ∷ (0 ∷ 0 ∷ 1 ∷ 0 ∷ 0 ∷ [])
     ∷ (0 ∷ 1 ∷ 0x2005 ∷ 0 ∷ [])
     ∷ (0 ∷ 1 ∷ 0x1888 ∷ 0 ∷ [])
     ∷ (0 ∷ 1 ∷ 0x1B63 ∷ 0 ∷ [])
@@ -79,5 +109,5 @@ answers =
     ∷ []
 
 pub starred : map comes-to cases ≡ answers
-unfolding front outcome scan lexeme lexemes.named lexemes.number double single symbol one-of digit-value name-character span numeral same word middle-word late-word reads run symbols entry-at unread-place named least lookup data-words table-of rows count rows-process count-process declared-rows shift-left signed-less encodeOf put put-long swap32 narrow
+unfolding front outcome scan lexeme lexemes.named lexemes.number double single symbol one-of digit-value name-character span numeral same word middle-word late-word reads run symbols entry-at unread-place named least lookup data-words table-of row-count rows count rows-process count-process declared-rows translation image image-code process-code expression-code push-constant less-than far-shift work-diadic-code assign-variable load-constant trailingZeros leadingZeros bytes bytes-of size encoded-bytes encodeOf put put-long swap32 narrow widen startOf startRefusal refusalOf freshOf runOf runFrom onceOf fetchOf withSecond decodeOf find table executeOf exec.load exec.store slotOf result takes next branch jump state.moves shift-left shift-right
 starred = refl

@@ -6,6 +6,7 @@ ghost use Rattle.exec.specs.State as state;
 ghost use Rattle.exec.specs.Exec as spec;
 ghost use Rattle.exec.specs.Lookup as lookup;
 use word::add;
+use word::sub;
 
 pub struct Machine {
     pub regs: [u32; 8],
@@ -152,7 +153,7 @@ impl Machine {
         ensures { λ r. ⌜ r ≡ state.here self ⌝ }
     {
         let a = add(self.pc, 4);
-        a - a % 4
+        sub(a, a % 4)
     }
 
     pub fn done(self) -> Stepped
@@ -235,7 +236,7 @@ fn slot_of(a: u32, n: usize) -> Slot
     if a < Machine::DATA_BASE {
         return Slot::Nowhere;
     }
-    let i = ((a - Machine::DATA_BASE) / 4) as usize;
+    let i = (sub(a, Machine::DATA_BASE) / 4) as usize;
     if i < n { Slot::At(i) } else { Slot::Nowhere }
 }
 

@@ -1,9 +1,10 @@
 -- The premises can be met, and the definitions compute: document 01's `var x; x := 2 + 3`, and a loop over an array that ends by a bad subscript. Instances.
 use mathlib.Core.Path.{_≡_, refl}
 use mathlib.Core.List.{List, [], _∷_}
-use Prim.Native.Nat.{ℕ}
+use Prim.Native.Nat.{ℕ, _≤_, _<_}
+use mathlib.Core.Bool.{true}
 use native.Mathlib.Omega.{arith}
-use lib.ListN.{length, replicate}
+use lib.ListN.{length, take, drop, replicate}
 use lib.Dec.{lit<, lit≤}
 use lib.Count.{trailingZeros, leadingZeros}
 use Rattle.word.specs.Word.{shift-left, shift-right, signed-less}
@@ -11,7 +12,7 @@ use Rattle.word.specs.Access.{stored}
 use Rattle.thumb.specs.Code.{put, put-long, swap32, narrow, widen, encodeOf, decodeOf, find, table}
 use Rattle.thumb.specs.Bytes.{encoded-bytes}
 use Rattle.program.specs.Tree.{Program, Variable, var, array, data-words, array-word, constant, variable, diadic, plus, less, assign, assign-element, braces, loop, none, also}
-use Rattle.meaning.specs.Run.{moves, begin}
+use Rattle.meaning.specs.Run.{moves, begin, ends-with}
 use Rattle.rules.specs.Bytes.{bytes-of, bytes, size}
 use Rattle.rules.specs.Constant.{load-constant}
 use Rattle.rules.specs.Blocks.{push-constant, push-variable, check-subscript, less-than, work-diadic-code, assign-variable, store-element, take-condition, jump-over, jump-back}
@@ -19,13 +20,13 @@ use Rattle.rules.specs.Code.{expression-code, repeat-code, process-code, image-
 use Rattle.exec.specs.State.{next, takes, result, jump, branch, link, freshOf}
 use Rattle.exec.specs.State as state
 use Rattle.exec.specs.Exec as exec
-use Rattle.exec.specs.Exec.{slotOf, executeOf}
+use Rattle.exec.specs.Exec.{Effect, slotOf, executeOf}
 use Rattle.machine.specs.Step.{withSecond, fetchOf, onceOf, refusalOf, stepOf}
 use Rattle.machine.specs.Run.{runFrom, runOf}
 use Rattle.machine.specs.Start.{startRefusal, startOf}
 use Rattle.machine.specs.Trace.{listed}
 use Rattle.program.specs.Sound.{Sound, here}
-use Rattle.simulate.specs.Statement.{Lent, EndsBy, tried, trace-of, started, Demand3}
+use Rattle.simulate.specs.Statement.{Each, Lent, Orderly, EndsBy, tried, trace-of, started, Demand3}
 use Rattle.simulate.specs.Theorem.{demand3}
 
 -- var x; x := 2 + 3
@@ -55,6 +56,38 @@ five-demand = demand3 five five-sound (rw five-image (lit≤ tt)) lent-words fiv
 five-ends : EndsBy five 0 (5 ∷ []) (runOf 100 (image five) lent-words (started five lent-words))
 unfolding five lent-words image image-code process-code expression-code push-constant work-diadic-code assign-variable load-constant trailingZeros leadingZeros bytes bytes-of encoded-bytes encodeOf put data-words startOf startRefusal refusalOf freshOf runOf runFrom onceOf fetchOf withSecond decodeOf find table executeOf exec.load exec.store slotOf result takes next state.moves
 five-ends = record { by-svc = refl; number = refl; same-words = refl }
+
+-- ── the statement's clauses as they read for this program, each with its number: one that said less, or more, would not fit here ──
+
+-- no word is taken for the needed ones but these 13, and no more than 16,384 are lent
+five-needs : (memory : List ℕ) → Lent five memory → (13 ≤ length memory) × (length memory ≤ 16384)
+unfolding five data-words
+five-needs memory l = (l .enough, l .few)
+
+-- start: sp is 0x20000034, r7 0x20000000, all else 0
+five-starts : startOf (image five) lent-words 1 2 ≡ record { status = 0; machine = record { regs = 0 ∷ 0 ∷ 0 ∷ 0 ∷ 0 ∷ 0 ∷ 0 ∷ 0x20000000 ∷ []; sp = 0x20000034; lr = 0; pc = 0; rs = 0 } }
+unfolding five data-words freshOf
+five-starts = five-demand .starts
+
+module _ (e : Effect) (o : Orderly five lent-words e) where
+  five-completes : e .after .state .status < 2
+  five-completes = o .no-fault
+
+  five-stack : (0x20000004 ≤ e .after .state .machine .sp) × (e .after .state .machine .sp ≤ 0x20000034)
+  unfolding five data-words
+  five-stack = (o .sp-low, o .sp-high)
+
+  five-within : Each (λ a. a .offset < 13) (e .access)
+  unfolding five data-words
+  five-within = o .within
+
+  five-untouched : drop 13 (e .after .words) ≡ 99 ∷ []
+  unfolding five data-words lent-words
+  five-untouched = o .untouched
+
+  five-ended : e .after .state .status ≡ 1 → (j : ℕ) × (ends-with (moves j (begin five lent-words) .end) (e .after .state .number) ≡ true) × (take 1 (e .after .words) ≡ moves j (begin five lent-words) .words)
+  unfolding five data-words
+  five-ended = o .ended
 
 -- var i; array v[1]; while i < 2 do { v[i] := i; i := i + 1 }, from i = 0: one store, then a bad subscript
 counter : Variable

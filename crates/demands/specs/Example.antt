@@ -1,0 +1,55 @@
+-- The premises of the demands can be met: document 01's `var x; x := 2 + 3`, from its bytes to the end of its run. Instances.
+use mathlib.Core.Path.{_≡_, refl}
+use mathlib.Core.List.{List, [], _∷_}
+use Prim.Native.Nat.{ℕ, _≤_}
+use native.Mathlib.Omega.{arith}
+use lib.ListN.{replicate}
+use lib.Dec.{lit≤}
+use Rattle.text.specs.Ascii.{ascii}
+use Rattle.spelling.specs.Characters.{one-of, digit-value, name-character, span, numeral}
+use Rattle.spelling.specs.Words.{same, word, middle-word, late-word}
+use Rattle.token.specs.Lexemes as lexemes
+use Rattle.token.specs.Lexemes.{double, single, symbol, lexeme}
+use Rattle.token.specs.Tokens.{scan, outcome}
+use Rattle.grammar.specs.Automaton.{run, reads}
+use Rattle.names.specs.Complaints.{least}
+use Rattle.names.specs.Scope.{lookup}
+use Rattle.program.specs.Tree.{Program, var, data-words, assign, diadic, plus, constant}
+use Rattle.meaning.specs.Run.{moves, begin}
+use Rattle.front.specs.Symbols.{entry-at, symbols, unread-place}
+use Rattle.front.specs.Front.{accepted, named, front}
+use Rattle.rules.specs.Code.{image}
+use Rattle.machine.specs.Run.{runOf}
+use Rattle.simulate.specs.Statement.{Lent, EndsBy, started, Demand3}
+use Rattle.demands.specs.Statement.{Translates}
+use Rattle.demands.specs.Proof.{front-translates, demands}
+
+-- its bytes, the program that they are, and memory of the 13 needed words
+abbrev source : List ℕ
+source = ascii "var x; x := 2 + 3"
+
+abbrev five : Program
+five = record { declarations = var ∷ []; body = assign (record { row = 0; offset = 0 }) (diadic plus (constant 2) (constant 3)) }
+
+abbrev memory : List ℕ
+memory = replicate 13 0xDEADBEEF
+
+accepted-five : front source 32 640 ≡ accepted 8 five
+unfolding front outcome scan lexeme lexemes.named lexemes.number double single symbol one-of digit-value name-character span numeral same word middle-word late-word reads run symbols entry-at unread-place named least lookup
+accepted-five = refl
+
+translates-five : Translates source 32 640 five
+translates-five = front-translates source 32 640 8 five accepted-five
+
+lent-five : Lent five memory
+unfolding data-words
+lent-five = record { words = omega arith; enough = lit≤ tt; few = lit≤ tt }
+
+-- demand 3 of it
+pub demand-five : Demand3 five memory
+demand-five = demands .three source 32 640 five memory translates-five lent-five
+
+-- its source's run ends after seven moves by finish with 5 in x; so every run of the image with a limit that is large enough ends by SVC 0 with 5 in x
+pub ends-five : (l : ℕ) × ((limit : ℕ) → l ≤ limit → EndsBy five 0 (5 ∷ []) (runOf limit (image five) memory (started five memory)))
+unfolding data-words
+ends-five = demand-five .ends 7 0 refl
