@@ -8,7 +8,8 @@ use lib.Dec.{ltb, leb}
 use lib.ListN.{length, getD, take, drop, List·getD-eq-default}
 use lib.Seq.{getD-take}
 use borrow.Author.Tests.{leb-true, leb-false, ltb-true, ltb-false, lt-ltb, le-ltb}
-use Rattle.word.specs.Choice.{pick, by-test}
+use Rattle.word.specs.Choice.{pick}
+use Rattle.word.specs.ChoiceLaws.{by-test}
 use Rattle.token.specs.Tokens.{Entry, read, refused, scan, outcome, entries}
 use Rattle.grammar.specs.Grammar.{Token}
 use Rattle.grammar.specs.Tokens.{token-of, tokens, unread}

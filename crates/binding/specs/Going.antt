@@ -9,7 +9,8 @@ use lib.Dec.{eqb, ltb}
 use lib.ListN.{length, getD, length-append}
 use lib.Seq.{sets}
 use borrow.Author.Tests.{ltb-false}
-use Rattle.word.specs.Choice.{pick, by-test}
+use Rattle.word.specs.Choice.{pick}
+use Rattle.word.specs.ChoiceLaws.{by-test}
 use Rattle.spelling.specs.Kinds as kind
 use Rattle.grammar.specs.Grammar.{Specification, commented, Process, text-process, text-specifications}
 use Rattle.grammar.specs.Tokens.{unread}

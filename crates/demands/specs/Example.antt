@@ -15,7 +15,6 @@ use Rattle.grammar.specs.Automaton.{run, reads}
 use Rattle.names.specs.Complaints.{least}
 use Rattle.names.specs.Scope.{lookup}
 use Rattle.program.specs.Tree.{Program, var, data-words, assign, diadic, plus, constant}
-use Rattle.meaning.specs.Run.{moves, begin}
 use Rattle.front.specs.Symbols.{entry-at, symbols, unread-place}
 use Rattle.front.specs.Front.{accepted, named, front}
 use Rattle.rules.specs.Code.{image}

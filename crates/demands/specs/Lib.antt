@@ -3,3 +3,5 @@ pub mod Statement
 pub mod Proof
 pub mod Starred
 pub mod Example
+pub mod Boundary
+pub mod BoundaryProof

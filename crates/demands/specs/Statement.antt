@@ -13,8 +13,7 @@ use Rattle.front.specs.IsX.{IsX, Room}
 use Rattle.front.specs.Deserved.{Deserves, FirstDeserved, Numbered}
 use Rattle.rules.specs.Code.{image}
 use Rattle.translate.specs.Translate.{Translated, translation, zeros}
-use Rattle.thumb.specs.Code.{encodeOf, decodeOf}
-use Rattle.thumb.specs.Laws.{whole}
+use Rattle.thumb.specs.Code.{encodeOf, decodeOf, whole}
 use Rattle.thumb.specs.declared.Instr.{Instr}
 use Rattle.thumb.specs.declared.Decoded.the-variants.{Known}
 use Rattle.exec.specs.declared.Machine.{Machine}

@@ -8,7 +8,8 @@ use borrow.Author.Tests.{le-ltb}
 use lib.Dec.{ltb}
 use lib.ListN.{length, length-append, take, drop}
 use lib.Seq.{take-all}
-use Rattle.word.specs.Choice.{pick, by-test}
+use Rattle.word.specs.Choice.{pick}
+use Rattle.word.specs.ChoiceLaws.{by-test}
 use Rattle.text.specs.Ascii.{ascii}
 use Rattle.text.specs.Text.{fitted, hexadecimal}
 use Rattle.text.specs.Back.{number, hexadecimal-back}

@@ -9,7 +9,8 @@ use lib.Dec.{eqb, leb}
 use lib.ListN.{length, getD, length-append}
 use lib.Seq.{sets}
 use borrow.Author.Tests.{eqb-true, eqb-false, leb-true}
-use Rattle.word.specs.Choice.{pick, by-test, both, either}
+use Rattle.word.specs.Choice.{pick}
+use Rattle.word.specs.ChoiceLaws.{by-test, both, either}
 use Rattle.spelling.specs.Kinds as kind
 use Rattle.grammar.specs.Grammar.{Token, mark, single, monadic, diadic, last, more, constant, variable, element, bracketed, is-monadic, is-diadic, is-associative}
 use Rattle.grammar.specs.Automaton.{ExpressionContext, in-brackets, in-subscript, OperandContext, first, under, next, after, link, State, need-expression, need-operand, have-operand, is, refused, run}

@@ -7,7 +7,8 @@ use native.Mathlib.Omega.{arith}
 use lib.Dec.{eqb, ltb, leb}
 use lib.ListN.{length}
 use borrow.Author.Tests.{eqb-true}
-use Rattle.word.specs.Choice.{pick, by-test}
+use Rattle.word.specs.Choice.{pick}
+use Rattle.word.specs.ChoiceLaws.{by-test}
 use Rattle.spelling.specs.Kinds as kind
 use Rattle.token.specs.Tokens as token
 use Rattle.token.specs.Tokens.{Entry}

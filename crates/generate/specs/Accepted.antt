@@ -8,7 +8,7 @@ use lib.ListN.{length, take, drop, replicate}
 use lib.Seq.{sets, sets-eq, length-sets, take-at}
 use lib.Dec.{ltb}
 use borrow.Author.Tests.{ltb-true, ltb-false}
-use Rattle.word.specs.Choice.{by-test}
+use Rattle.word.specs.ChoiceLaws.{by-test}
 use Rattle.program.specs.Tree.{Declaration, var, array, words-of, data-words, Program}
 use Rattle.program.specs.Core.{constant, variable, element, monadic, diadic, skip, stop, assign, assign-element, sequence, conditional, loop, core-process}
 use Rattle.program.specs.Core as core

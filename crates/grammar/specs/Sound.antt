@@ -6,7 +6,8 @@ use mathlib.Core.List.{List, [], _∷_, _++_}
 use Prim.Native.Nat.{ℕ, zero, suc}
 use lib.Dec.{eqb}
 use borrow.Author.Tests.{eqb-true}
-use Rattle.word.specs.Choice.{pick, both}
+use Rattle.word.specs.Choice.{pick}
+use Rattle.word.specs.ChoiceLaws.{both}
 use Rattle.spelling.specs.Kinds as kind
 use Rattle.grammar.specs.Grammar.{Token, number, name, mark, Expression, single, monadic, Chain, last, more, Operand, variable, Process, skip, stop, assign, assign-element, braces, conditional, while, after-comment, Processes, only, followed, Constant, literal, named, Specification, var, array, val, commented, text-expression, text-chain, text-operand, text-process, text-processes, text-constant, text-specification, text-specifications, text-program, is-monadic, is-diadic, is-associative, well-formed-expression, well-formed-chain, well-formed-operand, well-formed-process, well-formed-processes, well-formed}
 use Rattle.grammar.specs.Automaton.{ProcessContext, top, in-braces, in-then, in-else, in-body, in-comment, ListContext, opened, also, ExpressionContext, in-assign, in-target, in-assign-element, in-if, in-while, in-brackets, in-subscript, OperandContext, first, under, next, ChainContext, after, link, chain-base, chain-built, list-base, list-built, in-order, comments-before, in-comments, Partial, var-read, array-read, array-named, array-opened, array-sized, val-read, val-named, val-equated, whole, State, at-front, specifying, need-process, brace-opened, target, target-element, have-process, need-expression, need-operand, name-read, have-operand, have-expression, Move, go, none, is, kind-of, goes-on, step-have-process, step-have-expression, step-have-operand, step-operand, step-expression, step-process, with-name, with-constant, step-partial, step-front, step, Reading, accepted, refused, final-process, final-expression, final-operand, final, onward, run}

@@ -8,7 +8,7 @@ use lib.ListN.{length}
 use lib.Seq.{sets}
 use lib.Dec.{eqb}
 use borrow.Author.Tests.{eq-eqb, ne-eqb, eqb-true, eqb-false}
-use Rattle.word.specs.Choice.{by-test}
+use Rattle.word.specs.ChoiceLaws.{by-test}
 use Rattle.thumb.specs.Code.{encodeOf}
 use Rattle.thumb.specs.declared.Encoded.{Encoded}
 use Rattle.thumb.specs.declared.Instr.{Instr}

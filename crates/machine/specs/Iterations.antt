@@ -8,14 +8,15 @@ use native.Mathlib.Omega.{arith}
 use lib.ListN.{length}
 use lib.Dec.{eqb}
 use borrow.Author.Tests.{eqb-true, eq-eqb, lt-leb}
-use Rattle.word.specs.Choice.{pick, by-test}
+use Rattle.word.specs.Choice.{pick}
+use Rattle.word.specs.ChoiceLaws.{by-test}
 use Rattle.exec.specs.Exec.{After, after, done, fault, stops}
 use Rattle.exec.specs.declared.Machine.{Machine}
 use Rattle.exec.specs.declared.Stepped.{Stepped}
 use Rattle.machine.specs.Step.{onceOf, step-count, refusalOf, stepOf}
 use Rattle.machine.specs.Run.{RunAfter, run-after, ran, onward, runFrom, runOf}
 use Rattle.machine.specs.Turns.{run-from-add}
-use Rattle.machine.specs.Laws.{refusal-large, once-length, once-done}
+use Rattle.machine.specs.Laws.{refusal-large, once-length, once-done, once-registers}
 
 -- ── the iterations ──
 
@@ -106,8 +107,6 @@ run-one c w m =
         (λ e. rw (zero-add j) (ap (λ (s : Stepped). run-after (ran s j) (a .words)) (sym (once-done c w m (eqb-true (a .state .status) 0 e)))))
         (λ e. rw (zero-add j))
 
--- ── two runs in a row ──
-
 -- a run's report with k more completed before it
 abbrev pub counted : ℕ → RunAfter → RunAfter
 counted k r = run-after (record { machine = r .state .machine; status = r .state .status; number = r .state .number; count = k + r .state .count }) (r .words)
@@ -137,6 +136,29 @@ run-length n c w m =
     by-test (λ t. length (pick t (runFrom n 0 c w m) (run-after (ran (fault m (refusalOf c w)) 0) w) .words) ≡ length w) (eqb (refusalOf c w) 0)
     (λ _. run-from-length n 0 c w m)
     (λ _. refl)
+
+-- ── the registers ──
+
+run-from-registers : (n k : ℕ) (c w : List ℕ) (m : Machine) → length (runFrom n k c w m .state .machine .regs) ≡ length (m .regs)
+unfolding runFrom
+run-from-registers zero k c w m = refl
+run-from-registers (suc n) k c w m =
+    let a = onceOf c w m .after in
+    let j = k + step-count (a .state .status) in
+    let more = runFrom n j c (a .words) (a .state .machine) in
+    by-test (λ t. length (onward t more a j .state .machine .regs) ≡ length (m .regs)) (eqb (a .state .status) 0)
+    (λ _. run-from-registers n j c (a .words) (a .state .machine) ∙ once-registers c w m)
+    (λ _. once-registers c w m)
+
+-- a run leaves as many registers as there were
+pub run-registers : (n : ℕ) (c w : List ℕ) (m : Machine) → length (runOf n c w m .state .machine .regs) ≡ length (m .regs)
+unfolding runOf
+run-registers n c w m =
+    by-test (λ t. length (pick t (runFrom n 0 c w m) (run-after (ran (fault m (refusalOf c w)) 0) w) .state .machine .regs) ≡ length (m .regs)) (eqb (refusalOf c w) 0)
+    (λ _. run-from-registers n 0 c w m)
+    (λ _. refl)
+
+-- ── two runs in a row ──
 
 -- a run that reached its limit wasn't refused
 limit-accepted : (n : ℕ) (c w : List ℕ) (m : Machine) → runOf n c w m .state .status ≡ 0 → refusalOf c w ≡ 0

@@ -8,7 +8,7 @@ use lib.Dec.{ltb}
 use lib.ListN.{length, getD}
 use lib.Seq.{sets}
 use borrow.Author.Tests.{ltb-true, ltb-false}
-use Rattle.word.specs.Choice.{by-test}
+use Rattle.word.specs.ChoiceLaws.{by-test}
 use Rattle.spelling.specs.Kinds as kind
 use Rattle.grammar.specs.Grammar.{Expression, skip, stop, assign, assign-element, empty, braces, conditional, while, after-comment, only, followed}
 use Rattle.grammar.specs.Automaton.{ProcessContext, in-braces, in-then, in-else, in-body, in-comment, opened, also, in-assign, in-target, in-assign-element, in-if, in-while, need-process, target-element, have-process, need-expression, run}

@@ -5,6 +5,7 @@ pub mod Core
 pub mod Resolved
 pub mod Rows
 pub mod Table
+pub mod TableLaws
 pub mod Sound
 pub mod ReadBack
 pub mod SoundTree

@@ -7,7 +7,8 @@ use lib.ListN.{length}
 use lib.Dec.{ltb, lit<}
 use lib.Count.{trailingZeros, leadingZeros}
 use borrow.Author.Tests.{lt-ltb, le-ltb, ltb-true, ltb-false, leb-true}
-use Rattle.word.specs.Choice.{pick, by-test}
+use Rattle.word.specs.Choice.{pick}
+use Rattle.word.specs.ChoiceLaws.{by-test}
 use Rattle.thumb.specs.Code.{Form, put, put-long, swap32, narrow, encodeOf, MOVI, ADDI, SHLI}
 use Rattle.thumb.specs.Fields.{put-one}
 use Rattle.thumb.specs.declared.Encoded.{Encoded}

@@ -75,7 +75,7 @@ module _ (e : Effect) (o : Orderly five lent-words e) where
 
   five-stack : (0x20000004 ≤ e .after .state .machine .sp) × (e .after .state .machine .sp ≤ 0x20000034)
   unfolding five data-words
-  five-stack = (o .sp-low, o .sp-high)
+  five-stack = (o .kept .sp-low, o .kept .sp-high)
 
   five-within : Each (λ a. a .offset < 13) (e .access)
   unfolding five data-words
@@ -83,11 +83,12 @@ module _ (e : Effect) (o : Orderly five lent-words e) where
 
   five-untouched : drop 13 (e .after .words) ≡ 99 ∷ []
   unfolding five data-words lent-words
-  five-untouched = o .untouched
+  five-untouched = o .kept .untouched
 
-  five-ended : e .after .state .status ≡ 1 → (j : ℕ) × (ends-with (moves j (begin five lent-words) .end) (e .after .state .number) ≡ true) × (take 1 (e .after .words) ≡ moves j (begin five lent-words) .words)
+  five-ended : e .after .state .status ≡ 1
+      → (j : ℕ) × (ends-with (moves j (begin five lent-words) .end) (e .after .state .number) ≡ true) × (take 1 (e .after .words) ≡ moves j (begin five lent-words) .words)
   unfolding five data-words
-  five-ended = o .ended
+  five-ended h = let x = o .ended h in (x .j, x .ends, x .same-words)
 
 -- var i; array v[1]; while i < 2 do { v[i] := i; i := i + 1 }, from i = 0: one store, then a bad subscript
 counter : Variable

@@ -70,15 +70,16 @@ pub record Called : Type 0 where
   pub machine : Machine
   pub words : List ℕ
   pub status : ℕ
+  pub number : ℕ
   pub count : ℕ
   pub tries : List Effect
 
 -- a step hands back no count: it is what the step rule counts it as, of which a run's count is the sum
 abbrev pub by-step : Effect → List Effect → Called
-by-step e es = record { machine = e .after .state .machine; words = e .after .words; status = e .after .state .status; count = step-count (e .after .state .status); tries = es }
+by-step e es = record { machine = e .after .state .machine; words = e .after .words; status = e .after .state .status; number = e .after .state .number; count = step-count (e .after .state .status); tries = es }
 
 abbrev pub by-run : RunAfter → List Effect → Called
-by-run r es = record { machine = r .state .machine; words = r .words; status = r .state .status; count = r .state .count; tries = es }
+by-run r es = record { machine = r .state .machine; words = r .words; status = r .state .status; number = r .state .number; count = r .state .count; tries = es }
 
 abbrev pub call : List ℕ → Call → List ℕ → Machine → Called
 call code step w m = by-step (stepOf code w m) (tried 1 code w m)
@@ -107,25 +108,35 @@ called p memory ks = calls (image p) ks memory (started p memory)
 
 -- ── what holds ──
 
--- "no call is refused", and no fault ends one: status 0 or 1; every instruction that was tried counts, as none faults
-pub record Answered (a : Called) : Type 0 where
-  pub not-refused : a .status < 2
-  pub counted : a .count ≡ length (a .tries)
+-- the machine and the words that an instruction or a call leaves, from the lent words `memory`
+pub record Kept (p : Program) (memory words : List ℕ) (m : Machine) : Type 0 where
+  -- "sp stays from 0x20000000 + 4D to its first value"
+  pub sp-low : base + 4 * D p ≤ m .sp
+  pub sp-high : m .sp ≤ base + 4 * needs p
+  -- the words past the needed ones are those that were lent
+  pub untouched : drop (needs p) words ≡ drop (needs p) memory
 
--- what holds of each instruction, from the lent words `memory`
+-- demand 2: SVC n, only if the source's run ends so, with the same D words
+pub record Ended (p : Program) (memory words : List ℕ) (number : ℕ) : Type 0 where
+  pub j : ℕ
+  pub ends : ends-with (moves j (begin p memory) .end) number ≡ true
+  pub same-words : take (D p) words ≡ moves j (begin p memory) .words
+
+-- what holds of each instruction
 pub record Orderly (p : Program) (memory : List ℕ) (e : Effect) : Type 0 where
   -- it completes (0) or is an SVC (1): no fault, which would be 21 to 24
   pub no-fault : e .after .state .status < 2
-  -- "sp stays from 0x20000000 + 4D to its first value"
-  pub sp-low : base + 4 * D p ≤ e .after .state .machine .sp
-  pub sp-high : e .after .state .machine .sp ≤ base + 4 * needs p
+  pub kept : Kept p memory (e .after .words) (e .after .state .machine)
   -- what it loads or stores in data lies in the declared or the stack words, by the access's own address
   pub within : Each (λ a. a .offset < needs p) (e .access)
-  -- the words past the needed ones are those that were lent
-  pub untouched : drop (needs p) (e .after .words) ≡ drop (needs p) memory
-  -- demand 2: SVC n, only if the source's run ends so, with the same D words
-  pub ended : e .after .state .status ≡ 1
-      → (j : ℕ) × (ends-with (moves j (begin p memory) .end) (e .after .state .number) ≡ true) × (take (D p) (e .after .words) ≡ moves j (begin p memory) .words)
+  pub ended : e .after .state .status ≡ 1 → Ended p memory (e .after .words) (e .after .state .number)
+
+-- what holds of each call: "no call is refused", and no fault ends one: status 0 or 1; every instruction that was tried counts, as none faults
+pub record Answered (p : Program) (memory : List ℕ) (a : Called) : Type 0 where
+  pub not-refused : a .status < 2
+  pub counted : a .count ≡ length (a .tries)
+  pub kept : Kept p memory (a .words) (a .machine)
+  pub ended : a .status ≡ 1 → Ended p memory (a .words) (a .number)
 
 -- a run that ended by SVC n with these D words
 pub record EndsBy (p : Program) (n : ℕ) (words : List ℕ) (r : RunAfter) : Type 0 where
@@ -137,7 +148,7 @@ pub record Demand3 (p : Program) (memory : List ℕ) : Type 0 where
   -- "start isn't refused": the machine that it gives is the fresh one
   pub starts : startOf (image p) memory (D p) (N p) ≡ record { status = 0; machine = freshOf (D p) (N p) }
   -- for every list of calls: no call is refused
-  pub answered : (ks : List Call) → Each Answered (called p memory ks)
+  pub answered : (ks : List Call) → Each (Answered p memory) (called p memory ks)
   -- and every instruction of it is as it should be
   pub each : (ks : List Call) → Each (Orderly p memory) (all-tried (called p memory ks))
   -- "after each list and each instruction in it, some number of moves gives the same access list"

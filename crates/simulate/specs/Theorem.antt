@@ -22,7 +22,7 @@ use Rattle.machine.specs.Start.{startRefusal, startOf}
 use Rattle.machine.specs.Trace.{listed}
 use Rattle.machine.specs.declared.Started.{Started}
 use Rattle.program.specs.Sound.{Sound}
-use Rattle.simulate.specs.Statement.{Each, D, N, needs, Lent, Call, step, run, tried, Called, call, calls, all-tried, trace-of, started, called, Answered, Orderly, EndsBy, Demand3}
+use Rattle.simulate.specs.Statement.{Each, D, N, needs, Lent, Call, step, run, tried, Called, call, calls, all-tried, trace-of, started, called, Kept, Ended, Orderly, Answered, EndsBy, Demand3}
 use Rattle.simulate.specs.Generic.{times, times-stays, sees, reaches}
 use Rattle.simulate.specs.Straight.{address}
 use Rattle.simulate.specs.Relation.{Setting, data-of}
@@ -89,22 +89,24 @@ module _ (p : Program) (sound : Sound p) (short : length (image p) ≤ 65536) (m
       let t : length (take (D p) w) ≡ D p = length-take-le (D p) w (omega (arith, lent .enough)) in
       ext-getD 0 (take (D p) w) d (t ∙ sym l) (λ i b. let b′ : i < D p = omega arith in getD-take (D p) w i 0 b′ ∙ h i b′)
 
-  orderly : (x : Point) → Sees x → Orderly p memory (effect-at E x)
+  kept : (x : Point) → Sees x → Kept p memory (x .words) (x .state)
   unfolding address
+  kept x v = record { sp-low = v 0 .sp-low; sp-high = omega (arith, v 0 .sp-high); untouched = same-rest (x .words) (v 0 .all) (v 0 .untouched) }
+
+  ended-here : (x : Point) → Sees x → effect-at E x .after .state .status ≡ 1 → Ended p memory (effect-at E x .after .words) (effect-at E x .after .state .number)
+  ended-here x v e = ⊎-elim (λ c. absurd (omega (arith, c .status))) (λ h. by (h .0) (h .1)) (v 0 .does)
+    where
+      by : (j : ℕ) → Halts E (moves j (begin p memory)) x → Ended p memory (effect-at E x .after .words) (effect-at E x .after .state .number)
+      by j h = rw (h .effect) (record { j = j; ends = h .ends; same-words = same-data (x .words) _ (v 0 .all) (h .declared) (h .same) })
+
+  orderly : (x : Point) → Sees x → Orderly p memory (effect-at E x)
   orderly x v =
-      let a = v 1 in
       record {
         no-fault = ⊎-elim (λ e. omega arith) (λ e. omega arith) (status-of x v);
-        sp-low = a .sp-low;
-        sp-high = omega (arith, a .sp-high);
+        kept = kept (step-point E x) (later x v);
         within = ⊎-elim (λ c. rw needs-is at (c .within)) (λ h. rw (h .1 .effect) tt) (v 0 .does);
-        untouched = same-rest (step-point E x .words) (a .all) (a .untouched);
-        ended = λ e. ⊎-elim (λ c. absurd (omega (arith, c .status))) (λ h. (h .0, by h .0, by h .1)) (v 0 .does);
+        ended = ended-here x v;
       }
-    where
-      by : (h : (j : ℕ) × Halts E (moves j (begin p memory)) x)
-          → (ends-with (moves (h .0) (begin p memory) .end) (effect-at E x .after .state .number) ≡ true) × (take (D p) (effect-at E x .after .words) ≡ moves (h .0) (begin p memory) .words)
-      by h = rw (h .1 .effect) (h .1 .ends, same-data (x .words) _ (v 0 .all) (h .1 .declared) (h .1 .same))
 
   -- ── chains ──
 
@@ -157,10 +159,11 @@ module _ (p : Program) (sound : Sound p) (short : length (image p) ≤ 65536) (m
     state : r .state .machine ≡ last .state
     status : r .state .status < 2
     count : r .state .count ≡ k + length es
+    ended : r .state .status ≡ 1 → Ended p memory (r .words) (r .state .number)
 
   runs : (n k : ℕ) (x : Point) → Sees x → Runs x k (tried n (image p) (x .words) (x .state)) (runFrom n k (image p) (x .words) (x .state))
   unfolding runFrom
-  runs zero k x v = rw tried-none (record { last = x; chain = none; words = refl; state = refl; status = omega arith; count = omega arith })
+  runs zero k x v = rw tried-none (record { last = x; chain = none; words = refl; state = refl; status = omega arith; count = omega arith; ended = λ e. absurd (omega (arith, e)) })
   runs (suc n) k x v = by (status-of x v) (runs n (k + 1) (step-point E x) (later x v))
     where
       by : (effect-at E x .after .state .status ≡ 0) ⊎ (effect-at E x .after .state .status ≡ 1)
@@ -168,10 +171,10 @@ module _ (p : Program) (sound : Sound p) (short : length (image p) ≤ 65536) (m
           → Runs x k (tried (suc n) (image p) (x .words) (x .state)) (runFrom (suc n) k (image p) (x .words) (x .state))
       by (inl e) r =
           rw (tried-more x v n e, run-more x v n k e)
-          (record { last = r .last; chain = also (r .chain); words = r .words; state = r .state; status = r .status; count = r .count ∙ omega arith })
+          (record { last = r .last; chain = also (r .chain); words = r .words; state = r .state; status = r .status; count = r .count ∙ omega arith; ended = r .ended })
       by (inr e) r =
           rw (tried-last x v n e, run-last x v n k e)
-          (record { last = step-point E x; chain = also none; words = refl; state = refl; status = omega arith; count = omega arith })
+          (record { last = step-point E x; chain = also none; words = refl; state = refl; status = omega arith; count = omega arith; ended = ended-here x v })
 
   run-is : (n : ℕ) (x : Point) → Sees x → runOf n (image p) (x .words) (x .state) ≡ runFrom n 0 (image p) (x .words) (x .state)
   unfolding runOf
@@ -183,10 +186,10 @@ module _ (p : Program) (sound : Sound p) (short : length (image p) ≤ 65536) (m
   record Lists (x : Point) (made : List Called) : Type 0 where
     last : Point
     chain : Chain E x (all-tried made) last
-    answered : Each Answered made
+    answered : Each (Answered p memory) made
 
   -- one call before others
-  before : (x : Point) (a : Called) (more : List Called) (y : Point) → Chain E x (a .tries) y → Answered a → Lists y more → Lists x (a ∷ more)
+  before : (x : Point) (a : Called) (more : List Called) (y : Point) → Chain E x (a .tries) y → Answered p memory a → Lists y more → Lists x (a ∷ more)
   before x a more y c ans l = record { last = l .last; chain = chain-append c (l .chain); answered = (ans, l .answered) }
 
   one-counted : (x : Point) → Sees x → step-count (effect-at E x .after .state .status) ≡ 1
@@ -200,13 +203,13 @@ module _ (p : Program) (sound : Sound p) (short : length (image p) ≤ 65536) (m
       let e = step-is x v in
       let l = lists ks (step-point E x) (later x v) in
       let one = tried-one x v in
-      before x a _ (step-point E x) (rw one (also none)) (record { not-refused = rw e (orderly x v .no-fault); counted = rw (one, e) (one-counted x v) }) (rw e l)
+      before x a _ (step-point E x) (rw one (also none)) (record { not-refused = rw e (orderly x v .no-fault); counted = rw (one, e) (one-counted x v); kept = rw e (orderly x v .kept); ended = rw e (ended-here x v) }) (rw e l)
   lists (run n ∷ ks) x v =
       let a = call (image p) (run n) (x .words) (x .state) in
       let e = run-is n x v in
       let r = runs n 0 x v in
       let l = lists ks (r .last) (chain-sees (r .chain) v) in
-      before x a _ (r .last) (r .chain) (record { not-refused = rw e (r .status); counted = rw e (r .count ∙ omega arith) }) (rw (e, r .words, r .state) l)
+      before x a _ (r .last) (r .chain) (record { not-refused = rw e (r .status); counted = rw e (r .count ∙ omega arith); kept = rw (e, r .words, r .state) (kept (r .last) (chain-sees (r .chain) v)); ended = rw e (r .ended) }) (rw (e, r .words, r .state) l)
 
   -- ── for every number of moves ──
 

@@ -11,7 +11,8 @@ use lib.Dec.{eqb, ltb}
 use lib.ListN.{length, getD, drop, drop-of-length-le}
 use lib.Seq.{drop-cons}
 use borrow.Author.Tests.{eq-eqb, ne-eqb, eqb-true, ltb-true, ltb-false}
-use Rattle.word.specs.Choice.{pick, pick-false, by-test, both}
+use Rattle.word.specs.Choice.{pick}
+use Rattle.word.specs.ChoiceLaws.{pick-false, by-test, both}
 use Rattle.spelling.specs.Characters.{one-of, in-class, digit, digit-value, span, numeral}
 use Rattle.spelling.specs.Words.{same}
 use Rattle.spelling.specs.declared.Word.{Word}

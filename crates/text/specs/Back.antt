@@ -7,7 +7,8 @@ use native.Mathlib.Omega.{arith, pow-step}
 use native.Mathlib.Nat.{div-div-eq-div-mul}
 use borrow.Author.Tests.{ltb-true, ltb-false, lt-ltb, le-ltb}
 use lib.Dec.{ltb}
-use Rattle.word.specs.Choice.{pick, by-test}
+use Rattle.word.specs.Choice.{pick}
+use Rattle.word.specs.ChoiceLaws.{by-test}
 use Rattle.text.specs.Text.{digit, hexadecimal, digits, decimal}
 
 -- a digit's value

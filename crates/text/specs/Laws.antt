@@ -9,7 +9,8 @@ use borrow.Author.Tests.{ltb-true, ltb-false}
 use lib.ListN.{length, take, set, length-append, length-take}
 use lib.Seq.{take-all, take-append-le, take-suc-set}
 use lib.Dec.{ltb}
-use Rattle.word.specs.Choice.{pick, by-test}
+use Rattle.word.specs.Choice.{pick}
+use Rattle.word.specs.ChoiceLaws.{by-test}
 use Rattle.text.specs.Ascii.{ascii}
 use Rattle.text.specs.Text.{fitted, digit, digits, decimal, entry, summary}
 

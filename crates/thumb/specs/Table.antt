@@ -9,7 +9,8 @@ use native.Mathlib.Omega.{arith}
 use lib.ListN.{length, getD}
 use lib.Dec.{ltb, leb}
 use borrow.Author.Tests.{lt-ltb, le-ltb, le-leb, leb-true, ltb-true}
-use Rattle.word.specs.Choice.{pick, by-test, both, either}
+use Rattle.word.specs.Choice.{pick}
+use Rattle.word.specs.ChoiceLaws.{by-test, both, either}
 use Rattle.thumb.specs.declared.Decoded.{Decoded}
 use Rattle.thumb.specs.declared.Decoded.the-variants.{Known, Unknown}
 use Rattle.thumb.specs.declared.Instr.the-variants.{Shli}

@@ -10,7 +10,8 @@ use lib.Seq.{length-take-le}
 use lib.ListN.{length, getD, take, List·getD-eq-default}
 use mathlib.Core.Logic.{⊎-elim}
 use borrow.Author.Tests.{lt-ltb, eq-eqb, eqb-true, eqb-false, leb-true, ltb-true, ltb-false}
-use Rattle.word.specs.Choice.{pick, by-test, both, either}
+use Rattle.word.specs.Choice.{pick}
+use Rattle.word.specs.ChoiceLaws.{by-test, both, either}
 use Rattle.spelling.specs.Kinds as kinds
 use Rattle.spelling.specs.Characters.{one-of, character, within, letter, digit, digit-value, name-character, literal-character, span, numeral, separator}
 use Rattle.spelling.specs.Words.{word, middle-word, late-word}

@@ -8,7 +8,8 @@ use native.Mathlib.Omega.{arith}
 use lib.Dec.{eqb, leb, ltb}
 use lib.ListN.{length, getD}
 use borrow.Author.Tests.{ne-eqb, eqb-true, eqb-false, leb-true, ltb-true}
-use Rattle.word.specs.Choice.{pick, by-test, both}
+use Rattle.word.specs.Choice.{pick}
+use Rattle.word.specs.ChoiceLaws.{by-test, both}
 use Rattle.spelling.specs.Kinds as kinds
 use Rattle.token.specs.Lexemes.{lexeme}
 use Rattle.token.specs.Tokens.{Entry, Outcome, read, refused, also, taken, scan, outcome, entries}

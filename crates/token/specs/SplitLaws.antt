@@ -8,7 +8,8 @@ use native.Mathlib.Omega.{arith}
 use lib.Dec.{eqb, leb}
 use lib.ListN.{length}
 use borrow.Author.Tests.{eqb-true, leb-true, leb-false}
-use Rattle.word.specs.Choice.{pick, by-test}
+use Rattle.word.specs.Choice.{pick}
+use Rattle.word.specs.ChoiceLaws.{by-test}
 use Rattle.token.specs.Lexemes.{lexeme}
 use Rattle.token.specs.LexemeLaws.{Good, lexeme-good}
 use Rattle.token.specs.Tokens.{Entry, Outcome, read, refused, also, taken, scan}

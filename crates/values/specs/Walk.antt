@@ -6,7 +6,8 @@ use native.Mathlib.Omega.{arith}
 use lib.ListN.{length}
 use Rattle.thumb.specs.declared.Instr.{Instr}
 use Rattle.thumb.specs.declared.Instr.the-variants.{Svc}
-use Rattle.program.specs.Table.{word, monadic-of, diadic-of, expression-at, process-at, at-constant, at-variable, at-element, at-monadic, at-diadic, at-skip, at-stop, at-assign, at-assign-element, at-sequence, at-conditional, at-loop}
+use Rattle.program.specs.Table.{word, monadic-of, diadic-of, expression-at, process-at}
+use Rattle.program.specs.TableLaws.{at-constant, at-variable, at-element, at-monadic, at-diadic, at-skip, at-stop, at-assign, at-assign-element, at-sequence, at-conditional, at-loop}
 use Rattle.rules.specs.Blocks.{push-constant, push-variable, check-subscript, load-element, work-monadic-code, work-diadic-code, assign-variable, store-element}
 use Rattle.rules.specs.Code.{expression-code, process-code, choice-code, repeat-code}
 use Rattle.values.specs.declared.Row.{Row}

@@ -2,7 +2,7 @@
 -- Assumes nothing.
 use mathlib.Core.Path.{refl, sym, ap, _∙_}
 use borrow.Author.Tests.{lt-ltb, le-ltb}
-use Rattle.word.specs.Choice.{pick-t, pick-f}
+use Rattle.word.specs.ChoiceLaws.{pick-t, pick-f}
 use Rattle.thumb.specs.declared.Decoded.{Decoded}
 use Rattle.disassembly.specs.Disassembly.{bytes, size}
 use borrow.Author.Needs.{needs}

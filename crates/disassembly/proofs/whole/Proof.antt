@@ -4,7 +4,7 @@ use mathlib.Core.Path.{refl, ap, _∙_}
 use mathlib.Core.List.{List, [], _++_}
 use Prim.Native.Nat.{ℕ}
 use borrow.Author.Tests.{lt-ltb, le-ltb}
-use Rattle.word.specs.Choice.{pick-t, pick-f}
+use Rattle.word.specs.ChoiceLaws.{pick-t, pick-f}
 use Rattle.text.specs.Ascii.{ascii}
 use Rattle.text.specs.Text.{written, fitted, hexadecimal}
 use Rattle.text.specs.Laws.{joined}

@@ -3,7 +3,7 @@
 use mathlib.Core.Path.{_≡_, sym, subst, _∙_}
 use mathlib.Core.Bool.{true, false}
 use borrow.Author.Tests.{eqb-true}
-use Rattle.word.specs.Choice.{both}
+use Rattle.word.specs.ChoiceLaws.{both}
 use Rattle.grammar.specs.Grammar.{is-monadic, is-diadic, is-associative}
 use Rattle.grammar.specs.Unread.{inside}
 use Rattle.expressions.specs.Reads.{Reads, operand-form, Moved, Ready, closed}

@@ -5,7 +5,7 @@ use mathlib.Core.List.{List, _++_}
 use Prim.Native.Nat.{ℕ}
 use borrow.Author.Tests.{ne-eqb}
 use borrow.Author.Needs.{needs}
-use Rattle.word.specs.Choice.{pick-f}
+use Rattle.word.specs.ChoiceLaws.{pick-f}
 use Rattle.text.specs.Text.{written, fitted}
 use Rattle.mnemonic.specs.Mnemonic.{offset, offset-name}
 use Rattle.mnemonic.specs.Laws.{numbered}

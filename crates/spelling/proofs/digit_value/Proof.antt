@@ -3,7 +3,7 @@
 use mathlib.Core.Path.{sym, _∙_}
 use native.Mathlib.Omega.{arith}
 use borrow.Author.Tests.{leb-true}
-use Rattle.word.specs.Choice.{both}
+use Rattle.word.specs.ChoiceLaws.{both}
 use Rattle.word.specs.Tests.{tests}
 use Rattle.spelling.specs.Characters.{digit-value}
 use borrow.Author.Needs.{needs}

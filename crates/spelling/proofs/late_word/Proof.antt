@@ -3,7 +3,7 @@
 use mathlib.Core.List.{[], _∷_}
 use mathlib.Core.Path.{refl, sym, _∙_}
 use native.Mathlib.Omega.{arith}
-use Rattle.word.specs.Choice.{pick-f}
+use Rattle.word.specs.ChoiceLaws.{pick-f}
 use Rattle.spelling.specs.Words.{late-word, same}
 use Rattle.spelling.specs.Runs.{told}
 use borrow.Author.Needs.{needs}

@@ -2,7 +2,7 @@
 -- Assumes nothing.
 use mathlib.Core.List.{[], _∷_}
 use mathlib.Core.Path.{refl, sym, _∙_}
-use Rattle.word.specs.Choice.{pick-f}
+use Rattle.word.specs.ChoiceLaws.{pick-f}
 use Rattle.spelling.specs.Words.{middle-word, same}
 use Rattle.spelling.specs.Runs.{told}
 use borrow.Author.Needs.{needs}

@@ -1,2 +1,0 @@
--- The numbers of the C boundary.
-pub mod Numbers

@@ -1,0 +1,22 @@
+-- `gutilamboy::gutilamboy_step` meets its contract: the step's equation, with the state read from its words and given back as words.
+-- Rests on the definitions that its contract cites; assumes nothing.
+use mathlib.Core.Path.{ap, _∙_}
+use mathlib.Core.List.{List}
+use Prim.Native.Nat.{ℕ}
+use denote.Ref.{now}
+use Rattle.exec.specs.declared.Machine.{Machine}
+use Rattle.machine.specs.Step.{stepOf}
+use Rattle.gutilamboy.specs.Calls.{left, steppedWords, ofStep}
+use borrow.Author.Needs.{needs}
+use Rattle.gutilamboy.proofs.gutilamboy_step.Statement.{statement}
+use Rattle.gutilamboy.proofs.gutilamboy_step.Tie as tie
+
+returns : tie.Need-returns
+returns c =
+    let x = c .before .before .before .before .before .before .before .before .before .before .args in
+    let stepped = c .before .before .before .before .step in
+    let f = stepped .ensures ∙ ap (λ (m : Machine). stepOf (now (x .code)) (now (x .memory)) m .after) (c .before .before .before .before .before .before .state-of .ensures) in
+    ap (λ (s : List ℕ). left (steppedWords (stepped .result)) s (stepped .last .1 .1 .0)) (c .before .state-words .ensures) ∙ ap ofStep f
+
+pub gutilamboy-step-spec : {M : Type 1} → statement M
+gutilamboy-step-spec = tie.close (tie.spec (λ c κs. search needs) (λ c κs. search needs) (λ c κs. search needs) (λ c. search needs) returns)

@@ -1,0 +1,2 @@
+-- The exported calls over words.
+pub mod Calls

@@ -1,0 +1,68 @@
+// The C boundary: translate, start, step and run over lent slices and lent arrays of words.
+// A slice is a pointer and a length; an array is a pointer to as many words as its type says.
+ghost use mathlib.Core.Path.{_≡_};
+ghost use lib.ListN.{length};
+ghost use Rattle.gutilamboy.specs.Calls as calls;
+use numbers::state_of;
+use numbers::state_words;
+
+// Into `out`: status, place, tokens, rows, data, depth and the image's bytes; the rows into `table`, the image into `code`.
+#[no_mangle]
+pub extern "C" fn gutilamboy_translate(
+    source: &[u8],
+    table: &mut [u32],
+    code: &mut [u8],
+    out: &mut [u32; 7],
+)
+    ensures { λ _. ⌜ calls.translateLeft (now (out .exit)) (now (table .exit)) (now (code .exit)) ≡ calls.translateCall (now (source .entry)) (length (now (table .entry))) (length (now (code .entry))) ⌝ }
+{
+    let t = translate::translate(source, table, code);
+    *out = [t.status, t.place, t.tokens, t.rows, t.data, t.depth, t.code];
+}
+
+// The status; the state into `state`.
+#[no_mangle]
+pub extern "C" fn gutilamboy_start(
+    code: &[u8],
+    memory: &[u32],
+    declared: u32,
+    depth: u32,
+    state: &mut [u32; 12],
+) -> u32
+    ensures { λ r. ⌜ calls.startLeft r (now (state .exit)) ≡ calls.startCall (now (code .entry)) (now (memory .entry)) declared depth ⌝ }
+{
+    let started = machine::start(code, memory, declared, depth);
+    *state = state_words(started.machine);
+    started.status
+}
+
+// Status and number into `out`; the state from and to `state`.
+#[no_mangle]
+pub extern "C" fn gutilamboy_step(
+    code: &[u8],
+    memory: &mut [u32],
+    state: &mut [u32; 12],
+    out: &mut [u32; 2],
+)
+    ensures { λ _. ⌜ calls.left (now (out .exit)) (now (state .exit)) (now (memory .exit)) ≡ calls.stepCall (now (code .entry)) (now (memory .entry)) (now (state .entry)) ⌝ }
+{
+    let stepped = machine::step(state_of(state), code, memory);
+    *state = state_words(stepped.machine);
+    *out = [stepped.status, stepped.number];
+}
+
+// Status, number and count into `out`; the state from and to `state`.
+#[no_mangle]
+pub extern "C" fn gutilamboy_run(
+    code: &[u8],
+    memory: &mut [u32],
+    limit: u64,
+    state: &mut [u32; 12],
+    out: &mut [u64; 3],
+)
+    ensures { λ _. ⌜ calls.left (now (out .exit)) (now (state .exit)) (now (memory .exit)) ≡ calls.runCall limit (now (code .entry)) (now (memory .entry)) (now (state .entry)) ⌝ }
+{
+    let ran = machine::run(state_of(state), code, memory, limit);
+    *state = state_words(ran.machine);
+    *out = [ran.status as u64, ran.number as u64, ran.count];
+}

@@ -1,0 +1,80 @@
+-- Numbers and back: an instruction comes back from its numbers, a state from its words, and words from their state. Laws; rests on Numbers.
+use mathlib.Core.Path.{_≡_, refl, sym, ap, _∙_}
+use mathlib.Core.List.{List, [], _∷_}
+use Prim.Native.Nat.{ℕ, zero, suc, _+_}
+use native.Mathlib.Omega.{arith}
+use lib.ListN.{length, getD, drop}
+use lib.Seq.{drop-cons, drop-length}
+use Rattle.thumb.specs.declared.Instr.{Instr}
+use Rattle.thumb.specs.declared.Instr.the-variants.{Shli, Shri, Ashri, Addr, Subr, Movi, Addi, Subi, Ldrpci, Strspi, Ldrspi, Addpci, Addspi, Andr, Xorr, Shl, Shr, Negr, Orr, Mul, Mvnr, Str, Ldr, Stri, Ldri, Incsp, Decsp, Svc, Beq, Bne, Bge, Blt, Bu, Bl}
+use Rattle.thumb.specs.declared.Decoded.{Decoded}
+use Rattle.thumb.specs.declared.Decoded.the-variants.{Known, Unknown}
+use Rattle.exec.specs.declared.Machine.{Machine}
+use Rattle.numbers.specs.Numbers.{instructions, instructionOf, instructionWords, decodedWords, stateWords, stateOf}
+
+-- the instruction of five words
+abbrev pub numbered : List ℕ → Decoded
+numbered ws = instructionOf (getD ws 0 0) (getD ws 1 0) (getD ws 2 0) (getD ws 3 0) (getD ws 4 0)
+
+pub instruction-back : (i : Instr) → numbered (instructionWords i) ≡ Known i
+unfolding instructions instructionOf instructionWords
+instruction-back (Shli a b c) = refl
+instruction-back (Shri a b c) = refl
+instruction-back (Ashri a b c) = refl
+instruction-back (Addr a b c) = refl
+instruction-back (Subr a b c) = refl
+instruction-back (Movi a b) = refl
+instruction-back (Addi a b) = refl
+instruction-back (Subi a b) = refl
+instruction-back (Ldrpci a b) = refl
+instruction-back (Strspi a b) = refl
+instruction-back (Ldrspi a b) = refl
+instruction-back (Addpci a b) = refl
+instruction-back (Addspi a b) = refl
+instruction-back (Andr a b) = refl
+instruction-back (Xorr a b) = refl
+instruction-back (Shl a b) = refl
+instruction-back (Shr a b) = refl
+instruction-back (Negr a b) = refl
+instruction-back (Orr a b) = refl
+instruction-back (Mul a b) = refl
+instruction-back (Mvnr a b) = refl
+instruction-back (Str a b c) = refl
+instruction-back (Ldr a b c) = refl
+instruction-back (Stri a b c) = refl
+instruction-back (Ldri a b c) = refl
+instruction-back (Incsp a) = refl
+instruction-back (Decsp a) = refl
+instruction-back (Svc a) = refl
+instruction-back (Beq k) = refl
+instruction-back (Bne k) = refl
+instruction-back (Bge k) = refl
+instruction-back (Blt k) = refl
+instruction-back (Bu k) = refl
+instruction-back (Bl k) = refl
+
+-- and a decoding from its words, none included
+pub decoding-back : (d : Decoded) → numbered (decodedWords d) ≡ d
+unfolding instructions instructionOf decodedWords
+decoding-back (Known i) = instruction-back i
+decoding-back Unknown = refl
+
+-- ── states ──
+
+-- n elements of a list from the i-th on
+elements : ℕ → ℕ → List ℕ → List ℕ
+elements zero i s = []
+elements (suc n) i s = getD s i 0 ∷ elements n (suc i) s
+
+elements-are : (n i : ℕ) (s : List ℕ) → length s ≡ i + n → drop i s ≡ elements n i s
+unfolding elements
+elements-are zero i s e = let z : i ≡ length s = omega arith in rw z (drop-length s)
+elements-are (suc n) i s e = drop-cons s i 0 (omega arith) ∙ ap (λ (l : List ℕ). getD s i 0 ∷ l) (elements-are n (suc i) s (omega arith))
+
+pub words-back : (s : List ℕ) → length s ≡ 12 → stateWords (stateOf s) ≡ s
+unfolding elements
+words-back s e = sym (elements-are 12 0 s (omega arith))
+
+pub state-back : (m : Machine) → length (m .regs) ≡ 8 → stateOf (stateWords m) ≡ m
+unfolding elements
+state-back m e = ap (λ (r : List ℕ). record { regs = r; sp = m .sp; lr = m .lr; pc = m .pc; rs = m .rs }) (sym (elements-are 8 0 (m .regs) (omega arith)))
