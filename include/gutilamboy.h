@@ -1,4 +1,7 @@
-/* Translation of X to Armv6-M code, and the machine that runs it: the functions of libdevice.a.
+/* Translation of X to Armv6-M code, and the machine that runs it.
+ *
+ * libgutilamboy.a has translate, start, step and run; libgutilamboy_codec.a has encode and decode. Both are for
+ * x86-64 Linux, since the toolchain that proves and compiles them has that back end alone. C99 and C++.
  *
  * No function allocates, keeps a pointer after it returns, or touches memory other than what it was lent and its
  * stack. A lent length of 0 is allowed; the pointer must then still not be null. Buffers that one call gets must
@@ -14,33 +17,73 @@
 extern "C" {
 #endif
 
-/* Longest source in bytes and in tokens; what any source of so many tokens needs. */
-#define GUTILAMBOY_SOURCE_BYTES 16384
-#define GUTILAMBOY_TOKENS 1024
+/* The version of this interface: the major number changes where a caller must change too. */
+#define GUTILAMBOY_VERSION_MAJOR 1
+#define GUTILAMBOY_VERSION_MINOR 0
+
+/* ---- limits ---- */
+
+#define GUTILAMBOY_SOURCE_BYTES 16384 /* longest source */
+#define GUTILAMBOY_TOKENS 1024        /* most tokens of a source, comments counted */
+#define GUTILAMBOY_NAME_BYTES 32      /* longest name */
+#define GUTILAMBOY_NAMES 256          /* most names */
+#define GUTILAMBOY_DEPTH 32           /* deepest expression, assigned element or process */
+#define GUTILAMBOY_DATA_WORDS 8192    /* most declared words, and longest array */
+#define GUTILAMBOY_IMAGE_BYTES 65536  /* longest code that the machine takes */
+#define GUTILAMBOY_MEMORY_WORDS 16384 /* most words of memory that the machine takes */
+
+/* What any source of so many tokens needs: words of table, bytes of code buffer. */
 #define GUTILAMBOY_TABLE_WORDS(tokens) (4 * (tokens))
 #define GUTILAMBOY_CODE_BYTES(tokens) (48 * (tokens) + 256)
 
-/* Words of memory that a program needs, from `data` and `depth` of its translation; at most 8264. */
+/* Words of memory that a program needs, from `data` and `depth` of its translation, and the most that any does. */
 #define GUTILAMBOY_NEEDED_WORDS(data, depth) ((data) + 2 * (depth) + 8)
+#define GUTILAMBOY_NEEDED_WORDS_MOST 8264
 
-/* What a translation answers. Accepted: status and place are 0. Refused: status is 1 to 14, place a byte of the
- * source, all counts are 0 and both buffers are zeroed. */
+/* The address of memory word 0, in r7; code begins at address 0. */
+#define GUTILAMBOY_DATA_BASE 0x20000000
+
+/* ---- translation ---- */
+
+/* Status of a translation. 0: accepted. Else refused, and `place` is the byte, from 0, that is named here. */
+#define GUTILAMBOY_ACCEPTED 0
+#define GUTILAMBOY_LONG_SOURCE 1     /* source above 16,384 bytes; place 0 */
+#define GUTILAMBOY_BROKEN_TOKEN 2    /* broken token, or a byte that starts none; its first byte */
+#define GUTILAMBOY_LARGE_NUMBER 3    /* decimal above 2,147,483,647 or hex above FFFFFFFF; its first byte */
+#define GUTILAMBOY_LONG_NAME 4       /* name above 32 bytes; its first byte */
+#define GUTILAMBOY_MANY_TOKENS 5     /* more than 1,024 tokens; the first byte of token 1,025 */
+#define GUTILAMBOY_GRAMMAR 6         /* the first token that no program continues with, or the source's length */
+#define GUTILAMBOY_TOO_DEEP 7        /* depth above 32; place 0 */
+#define GUTILAMBOY_NOT_DECLARED 8    /* name not declared before; the name */
+#define GUTILAMBOY_DECLARED_TWICE 9  /* name declared twice; the second */
+#define GUTILAMBOY_WRONG_KIND 10     /* name of another kind than its place takes; the name */
+#define GUTILAMBOY_ARRAY_LENGTH 11   /* array length not 1 to 8,192; the array's name */
+#define GUTILAMBOY_TOO_MUCH 12       /* more than 256 names or 8,192 words of data; the name that passes it */
+#define GUTILAMBOY_SHORT_TABLE 13    /* table shorter than GUTILAMBOY_TABLE_WORDS of the tokens; place 0 */
+#define GUTILAMBOY_SHORT_CODE 14     /* code buffer shorter than GUTILAMBOY_CODE_BYTES of the tokens; place 0 */
+
+/* What a translation answers. Of a refused source all counts are 0. */
 struct gutilamboy_translation {
     uint32_t status;
-    uint32_t place;
-    uint32_t tokens;
-    uint32_t rows;  /* four words of the table each */
-    uint32_t data;  /* declared words */
-    uint32_t depth; /* deepest expression */
-    uint32_t code;  /* bytes of the image */
+    uint32_t place;  /* of a refusal: a byte of the source, or the source's length */
+    uint32_t tokens; /* comments counted */
+    uint32_t rows;   /* four words of the table each */
+    uint32_t data;   /* declared words */
+    uint32_t depth;  /* deepest expression */
+    uint32_t code;   /* bytes of the image */
 };
 
-/* Translates a source. The table's rows and the image stand at the start of the buffers, zeros behind them.
+/* Translates a source. Accepted: the rows of the syntax table and the image stand at the start of the buffers, zeros
+ * behind them. Refused: both buffers are zeroed wholly.
+ * A variable or an array is a row of kind 1 or 2, in the order of declaration, with its first memory word and its
+ * number of words: memory words 0 to data - 1 are the declared ones. A truth value is -1 (0xFFFFFFFF) or 0.
  * Stack: at most 64 KB, whatever the source; measured on x86-64 (docs/BENCHMARKS.md). */
-void device_translate(const uint8_t *source, size_t source_length,
-                      uint32_t *table, size_t table_length,
-                      uint8_t *code, size_t code_length,
-                      struct gutilamboy_translation *out);
+void gutilamboy_translate(const uint8_t *source, size_t source_length,
+                          uint32_t *table, size_t table_length,
+                          uint8_t *code, size_t code_length,
+                          struct gutilamboy_translation *out);
+
+/* ---- the machine ---- */
 
 /* The machine's registers. */
 struct gutilamboy_state {
@@ -48,18 +91,35 @@ struct gutilamboy_state {
     uint32_t sp;
     uint32_t lr;
     uint32_t pc;
-    uint32_t rs; /* the last result */
+    uint32_t rs; /* the last result, which the branches test */
 };
 
-/* Status of start: 0; refused: 31 code too long, 32 memory too long, 34 data above 8192 or depth above 32, 33 fewer
- * words than needed. `code_length` is the image's length, not the buffer's. */
-uint32_t device_start(const uint8_t *code, size_t code_length,
-                      const uint32_t *memory, size_t memory_length,
-                      uint32_t data, uint32_t depth,
-                      struct gutilamboy_state *state);
+/* Status of step and run: an instruction completed, or the limit was reached; an SVC, whose number is `number`, a
+ * finish, stop or bad subscript of an image; a fault; a refusal, which start gives too. `number` is 0 but of an SVC.
+ * After a fault, a refusal or an SVC state and memory are as before that instruction: pc stands at it. Each check of
+ * a subscript has its own SVC, so the pc of a bad subscript tells which one failed. */
+#define GUTILAMBOY_DONE 0
+#define GUTILAMBOY_SVC 1
+#define GUTILAMBOY_FAULT_FETCH 21       /* pc odd, or a byte of the instruction outside code */
+#define GUTILAMBOY_FAULT_INSTRUCTION 22 /* not an instruction of the list */
+#define GUTILAMBOY_FAULT_ALIGNMENT 23   /* address not a multiple of 4 */
+#define GUTILAMBOY_FAULT_ADDRESS 24     /* a byte outside memory, or a store not in data */
+#define GUTILAMBOY_LONG_CODE 31         /* code above 65,536 bytes */
+#define GUTILAMBOY_LONG_MEMORY 32       /* memory above 16,384 words */
+#define GUTILAMBOY_SHORT_MEMORY 33      /* start: fewer words than needed */
+#define GUTILAMBOY_BAD_NUMBERS 34       /* start: data above 8,192 or depth above 32 */
 
-/* Status of step and run: 0 one instruction done, or the limit reached; 1 SVC, with its number: 0 finish, 1 stop,
- * 2 bad subscript; 21 to 24 fault; 31, 32 refused. Number is 0 unless status is 1. */
+#define GUTILAMBOY_FINISH 0
+#define GUTILAMBOY_STOP 1
+#define GUTILAMBOY_BAD_SUBSCRIPT 2
+
+/* The status of start; the state to begin with, all zero where it is refused. `data` and `depth` are those of the
+ * translation, `code_length` is the image's length, not the buffer's. Memory holds the starting words. */
+uint32_t gutilamboy_start(const uint8_t *code, size_t code_length,
+                          const uint32_t *memory, size_t memory_length,
+                          uint32_t data, uint32_t depth,
+                          struct gutilamboy_state *state);
+
 struct gutilamboy_stepped {
     uint32_t status;
     uint32_t number;
@@ -72,15 +132,80 @@ struct gutilamboy_ran {
 };
 
 /* One instruction. */
-void device_step(const uint8_t *code, size_t code_length,
-                 uint32_t *memory, size_t memory_length,
-                 struct gutilamboy_state *state, struct gutilamboy_stepped *out);
+void gutilamboy_step(const uint8_t *code, size_t code_length,
+                     uint32_t *memory, size_t memory_length,
+                     struct gutilamboy_state *state, struct gutilamboy_stepped *out);
 
 /* Up to `limit` instructions. */
-void device_run(const uint8_t *code, size_t code_length,
-                uint32_t *memory, size_t memory_length,
-                uint64_t limit,
-                struct gutilamboy_state *state, struct gutilamboy_ran *out);
+void gutilamboy_run(const uint8_t *code, size_t code_length,
+                    uint32_t *memory, size_t memory_length,
+                    uint64_t limit,
+                    struct gutilamboy_state *state, struct gutilamboy_ran *out);
+
+/* ---- encoding (libgutilamboy_codec.a) ---- */
+
+/* The instructions by number. Fields a, b, c are in the order of the comments, unused ones 0; d is the register that
+ * takes the result, or is stored; n a shift count (1 to 32 of SHRI and ASHRI); u5, u7 and u8 count words, and of MOVI,
+ * ADDI, SUBI and SVC units; k is a distance in halfwords from the instruction's address + 4, as 32-bit two's
+ * complement. */
+#define GUTILAMBOY_OP_SHLI 0     /* n l d */
+#define GUTILAMBOY_OP_SHRI 1     /* n l d */
+#define GUTILAMBOY_OP_ASHRI 2    /* n l d */
+#define GUTILAMBOY_OP_ADDR 3     /* r l d */
+#define GUTILAMBOY_OP_SUBR 4     /* r l d */
+#define GUTILAMBOY_OP_MOVI 5     /* d u8 */
+#define GUTILAMBOY_OP_ADDI 6     /* d u8 */
+#define GUTILAMBOY_OP_SUBI 7     /* d u8 */
+#define GUTILAMBOY_OP_LDRPCI 8   /* d u8 */
+#define GUTILAMBOY_OP_STRSPI 9   /* d u8 */
+#define GUTILAMBOY_OP_LDRSPI 10  /* d u8 */
+#define GUTILAMBOY_OP_ADDPCI 11  /* d u8 */
+#define GUTILAMBOY_OP_ADDSPI 12  /* d u8 */
+#define GUTILAMBOY_OP_ANDR 13    /* r d */
+#define GUTILAMBOY_OP_XORR 14    /* r d */
+#define GUTILAMBOY_OP_SHL 15     /* r d */
+#define GUTILAMBOY_OP_SHR 16     /* r d */
+#define GUTILAMBOY_OP_NEGR 17    /* r d */
+#define GUTILAMBOY_OP_ORR 18     /* r d */
+#define GUTILAMBOY_OP_MUL 19     /* r d */
+#define GUTILAMBOY_OP_MVNR 20    /* r d */
+#define GUTILAMBOY_OP_STR 21     /* i b d */
+#define GUTILAMBOY_OP_LDR 22     /* i b d */
+#define GUTILAMBOY_OP_STRI 23    /* u5 b d */
+#define GUTILAMBOY_OP_LDRI 24    /* u5 b d */
+#define GUTILAMBOY_OP_INCSP 25   /* u7 */
+#define GUTILAMBOY_OP_DECSP 26   /* u7 */
+#define GUTILAMBOY_OP_SVC 27     /* u8 */
+#define GUTILAMBOY_OP_BEQ 28     /* k */
+#define GUTILAMBOY_OP_BNE 29     /* k */
+#define GUTILAMBOY_OP_BGE 30     /* k */
+#define GUTILAMBOY_OP_BLT 31     /* k */
+#define GUTILAMBOY_OP_BU 32      /* k */
+#define GUTILAMBOY_OP_BL 33      /* k */
+#define GUTILAMBOY_OP_NONE 34    /* decode: no instruction of the list */
+
+/* Status of encode: 0, or a field or the number out of range; then count and both halfwords are 0. */
+#define GUTILAMBOY_OUT_OF_RANGE 35
+
+struct gutilamboy_encoded {
+    uint32_t status;
+    uint32_t count; /* of halfwords */
+    uint32_t first;
+    uint32_t second; /* 0 but of BL */
+};
+
+struct gutilamboy_decoded {
+    uint32_t op;
+    uint32_t a;
+    uint32_t b;
+    uint32_t c;
+    uint32_t k;
+};
+
+void gutilamboy_encode(uint8_t op, uint8_t a, uint8_t b, uint8_t c, uint32_t k, struct gutilamboy_encoded *out);
+
+/* `second` is looked at only where `first` is F000 to F7FF. */
+void gutilamboy_decode(uint16_t first, uint16_t second, struct gutilamboy_decoded *out);
 
 #ifdef __cplusplus
 }

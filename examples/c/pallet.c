@@ -1,7 +1,7 @@
 /* Translates a rule, runs its image on lent memory, and prints how it ended and its words.
  *
- *   rt staticlib device
- *   cc -std=c99 -Wall -I include examples/c/pallet.c target/staticlib/libdevice.a -o pallet && ./pallet
+ *   rt staticlib gutilamboy
+ *   cc -std=c99 -Wall -I include examples/c/pallet.c target/staticlib/libgutilamboy.a -o pallet && ./pallet
  */
 #include <stdio.h>
 #include <string.h>
@@ -32,14 +32,14 @@ static int run(const struct gutilamboy_translation *t, const char *what, const u
 
     memset(memory, 0, sizeof memory);
     memcpy(memory, words, length * sizeof *words);
-    status = device_start(code, t->code, memory, MEMORY_WORDS, t->data, t->depth, &state);
+    status = gutilamboy_start(code, t->code, memory, MEMORY_WORDS, t->data, t->depth, &state);
     if (status != 0) {
         printf("%s: start refused, %u\n", what, (unsigned)status);
         return 1;
     }
     /* one instruction, then the rest, but no more than 10,000 */
-    device_step(code, t->code, memory, MEMORY_WORDS, &state, &stepped);
-    device_run(code, t->code, memory, MEMORY_WORDS, 10000, &state, &ran);
+    gutilamboy_step(code, t->code, memory, MEMORY_WORDS, &state, &stepped);
+    gutilamboy_run(code, t->code, memory, MEMORY_WORDS, 10000, &state, &ran);
     printf("%s: step %u, then status %u number %u, words", what, (unsigned)stepped.status, (unsigned)ran.status,
            (unsigned)ran.number);
     for (i = 0; i < t->data; i++)
@@ -55,7 +55,7 @@ int main(void)
     static const uint32_t five[] = {5, 7, 10, 20, 30, 40};
     struct gutilamboy_translation t;
 
-    device_translate((const uint8_t *)source, strlen(source), table, sizeof table / sizeof *table, code, sizeof code,
+    gutilamboy_translate((const uint8_t *)source, strlen(source), table, sizeof table / sizeof *table, code, sizeof code,
                      &t);
     printf("status %u place %u tokens %u rows %u data %u depth %u\n", (unsigned)t.status, (unsigned)t.place,
            (unsigned)t.tokens, (unsigned)t.rows, (unsigned)t.data, (unsigned)t.depth);
