@@ -22,7 +22,7 @@ use Rattle.simulate.specs.Statement.{D, N, Lent, Demand3}
 
 -- ── demand 1: everything is answered ──
 
--- "A bad source is refused with one number and one place ... and leaves table and image all zero"; "its counts are all 0"
+-- a refusal: "It zeroes table and code buffer wholly and its counts are all 0"
 pub record Refused (source : List ℕ) (table code n p : ℕ) (t : Translated) : Type 0 where
   pub status : t .answer .status ≡ n
   pub place : t .answer .place ≡ p

@@ -17,7 +17,7 @@ monadic-operator o = pick (eqb o kind.minus) tree.negate tree.invert
 abbrev pub diadic-operator : ℕ → tree.Diadic
 diadic-operator o = diadic-of (o - 30)
 
--- a name as an operand: "A val's use is its constant"; what was refused stands for 0
+-- a name as an operand: a val's use is its constant; what was refused stands for 0
 abbrev pub value : Meaning → tree.Expression
 value unknown = tree.constant 0
 value (variable v) = tree.variable v

@@ -131,7 +131,7 @@ pub record Orderly (p : Program) (memory : List ℕ) (e : Effect) : Type 0 where
   pub within : Each (λ a. a .offset < needs p) (e .access)
   pub ended : e .after .state .status ≡ 1 → Ended p memory (e .after .words) (e .after .state .number)
 
--- what holds of each call: "no call is refused", and no fault ends one: status 0 or 1; every instruction that was tried counts, as none faults
+-- what holds of each call: it is not refused, and no fault ends it: status 0 or 1; every instruction that was tried counts, as none faults
 pub record Answered (p : Program) (memory : List ℕ) (a : Called) : Type 0 where
   pub not-refused : a .status < 2
   pub counted : a .count ≡ length (a .tries)
@@ -145,7 +145,7 @@ pub record EndsBy (p : Program) (n : ℕ) (words : List ℕ) (r : RunAfter) : Ty
   pub same-words : take (D p) (r .words) ≡ words
 
 pub record Demand3 (p : Program) (memory : List ℕ) : Type 0 where
-  -- "start isn't refused": the machine that it gives is the fresh one
+  -- start is not refused: the machine that it gives is the fresh one
   pub starts : startOf (image p) memory (D p) (N p) ≡ record { status = 0; machine = freshOf (D p) (N p) }
   -- for every list of calls: no call is refused
   pub answered : (ks : List Call) → Each (Answered p memory) (called p memory ks)
