@@ -66,9 +66,9 @@ module _ (source ks ps vs : List ℕ) (lp : length ps ≡ length ks) (lv : lengt
       let z : length ks - length (h .0) ≡ i = omega (arith, h .2) in
       refused-at i place (ap (answer (length ks)) (h .1) ∙ ap read.Refused z) e
 
-  pub deep-program : (p : Program) → R ≡ automaton.accepted p → 32 < max (grammar-depth.depth p) (grammar-depth.deepest p) → come ≡ front.refused 7 0
+  pub deep-program : (p : Program) → R ≡ automaton.accepted p → grammar-depth.depth-limit < max (grammar-depth.depth p) (grammar-depth.deepest p) → come ≡ front.refused 7 0
   unfolding named
-  deep-program p q h = as-read ∙ ap (parsed source ts) q ∙ rw (lt-ltb 32 (max (grammar-depth.depth p) (grammar-depth.deepest p)) h)
+  deep-program p q h = as-read ∙ ap (parsed source ts) q ∙ rw (lt-ltb grammar-depth.depth-limit (max (grammar-depth.depth p) (grammar-depth.deepest p)) h)
 
   -- a program was read, with its rows
   pub record Came (start rows depth deepest : ℕ) (t t′ : List ℕ) : Type 0 where
@@ -95,7 +95,7 @@ module _ (source ks ps vs : List ℕ) (lp : length ps ≡ length ks) (lv : lengt
     as-named = as-read ∙ ap (parsed source ts) (c .reading)
 
     -- 7
-    pub too-deep : 32 < max depth deepest → come ≡ front.refused 7 0
+    pub too-deep : grammar-depth.depth-limit < max depth deepest → come ≡ front.refused 7 0
     too-deep h = deep-program p (c .reading) (rw (← (c .depth-is), ← (c .deepest-is)) h)
 
     pub small : length ks ≤ 1024 → (start ≤ 1024) × (rows ≤ 1024)
@@ -108,10 +108,10 @@ module _ (source ks ps vs : List ℕ) (lp : length ps ≡ length ks) (lv : lengt
         by (program ss b) = omega arith
 
     -- the names come next
-    pub as-names : max depth deepest ≤ 32 → come ≡ named-as source ks ps vs p
+    pub as-names : max depth deepest ≤ grammar-depth.depth-limit → come ≡ named-as source ks ps vs p
     unfolding named
     as-names h =
-        as-named ∙ rw (le-ltb 32 (max (grammar-depth.depth p) (grammar-depth.deepest p)) (rw (← (c .depth-is), ← (c .deepest-is)) h))
+        as-named ∙ rw (le-ltb grammar-depth.depth-limit (max (grammar-depth.depth p) (grammar-depth.deepest p)) (rw (← (c .depth-is), ← (c .deepest-is)) h))
         (λ j. judged (least (complaints (text-all ks ps vs (length ks) refl lp lv source j) (place-all ks ps vs (length ks) refl lp lv j) p)) (length-entries ks ps vs (length ks) 0 j)
         (resolve.resolve (text-all ks ps vs (length ks) refl lp lv source j) p))
 

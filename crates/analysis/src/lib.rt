@@ -16,6 +16,9 @@ ghost use lib.ListN.{length, getD};
 ghost use Rattle.word.specs.Choice.{pick};
 ghost use Rattle.token.specs.Tokens as scanned;
 ghost use Rattle.grammar.specs.Grammar as grammar;
+ghost use Rattle.grammar.specs.Automaton.{reads};
+ghost use Rattle.grammar.specs.Tokens.{unread};
+ghost use Rattle.grammar.specs.Nesting.{Bounded};
 ghost use Rattle.front.specs.Front.{front};
 ghost use Rattle.analysis.specs.Analysed.{Analysed, Parses};
 ghost use Rattle.analysis.specs.Named.{Ready, «named-as»};
@@ -98,7 +101,7 @@ fn place_of(places: &[u32], i: usize, end: u32) -> u32
     }
 }
 
-// The tokens are read into rows, the depth is tested, the names are resolved.
+// The tokens are read into rows, the depth is tested, the names are resolved. `Bounded`, which the recognizer says, bounds the readers' stack.
 fn read(
     source: &[u8],
     kinds: &[u8],
@@ -106,7 +109,7 @@ fn read(
     values: &[u32],
     table: &mut [u32; 4096],
 ) -> Analysis
-    requires { ⌜ (length (now source) ≤ 16384) × ((length (now kinds) ≤ 1024) × ((length (now places) ≡ length (now kinds)) × ((length (now values) ≡ length (now kinds)) × (length (now table) ≡ 4096)))) ⌝ }
+    requires { ⌜ (length (now source) ≤ 16384) × ((length (now kinds) ≤ 1024) × ((length (now places) ≡ length (now kinds)) × ((length (now values) ≡ length (now kinds)) × ((length (now table) ≡ 4096) × Bounded (reads (unread (now kinds) (now values) 0)))))) ⌝ }
     ensures { λ r. ⌜ Parses (now (source .entry)) (scanned.entries (now (kinds .entry)) (now (places .entry)) (now (values .entry)) 0 (length (now (kinds .entry)))) (now (table .exit)) r ⌝ }
 {
     let a = program(kinds, values, table);

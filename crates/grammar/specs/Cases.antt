@@ -5,9 +5,10 @@ use mathlib.Core.Bool.{true, false}
 use mathlib.Core.List.{List, [], _∷_}
 use Prim.Native.Nat.{ℕ, zero, suc}
 use Rattle.spelling.specs.Kinds as kind
-use Rattle.grammar.specs.Grammar.{Token, number, name, mark, single, diadic, Chain, last, more, constant, skip, stop, assign, assign-element, empty, braces, only, followed, var, program}
+use Rattle.grammar.specs.Grammar.{Token, number, name, mark, single, diadic, Chain, last, more, Operand, constant, bracketed, Process, skip, stop, assign, assign-element, empty, braces, only, followed, var, program}
 use Rattle.grammar.specs.Automaton.{accepted, refused, run, reads}
 use Rattle.grammar.specs.Depth.{depth, deepest, too-deep}
+use Rattle.grammar.specs.Nesting.{nesting}
 use Rattle.grammar.specs.Rows.{rows, rows-process, rows-expression, count-process, count-expression}
 
 -- `var x; x := 2 + 3`: 8 tokens
@@ -81,3 +82,34 @@ chain-fits = refl
 chain-too-deep : too-deep (program [] (assign 0 (diadic kind.plus (constant 1) (ones 31)))) ≡ true
 unfolding ones
 chain-too-deep = refl
+
+-- n brackets around a one, and n braces around skip
+in-brackets : ℕ → Operand
+in-brackets zero = constant 1
+in-brackets (suc n) = bracketed (single (in-brackets n))
+
+in-braces : ℕ → Process
+in-braces zero = skip
+in-braces (suc n) = braces (only (in-braces n))
+
+-- 31 brackets are deeper as an operand of `+`, and nest deeper only after it
+left-depth : deepest (program [] (assign 0 (diadic kind.plus (in-brackets 31) (last (constant 1))))) ≡ 33
+unfolding in-brackets
+left-depth = refl
+
+left-nesting : nesting (program [] (assign 0 (diadic kind.plus (in-brackets 31) (last (constant 1))))) ≡ 32
+unfolding in-brackets
+left-nesting = refl
+
+right-nesting : nesting (program [] (assign 0 (diadic kind.plus (constant 1) (last (in-brackets 31))))) ≡ 33
+unfolding in-brackets
+right-nesting = refl
+
+-- skip counts in depth and nests nothing
+braces-too-deep : depth (program [] (in-braces 32)) ≡ 33
+unfolding in-braces
+braces-too-deep = refl
+
+braces-nesting : nesting (program [] (in-braces 32)) ≡ 32
+unfolding in-braces
+braces-nesting = refl

@@ -64,5 +64,8 @@ abbrev pub deepest : Program → ℕ
 deepest (program ss p) = deepest-process p
 
 -- refusal 7: "depth of an expression, assigned element or process above 32"
+abbrev pub depth-limit : ℕ
+depth-limit = 32
+
 abbrev pub too-deep : Program → Bool
-too-deep p = ltb 32 (max (depth p) (deepest p))
+too-deep p = ltb depth-limit (max (depth p) (deepest p))

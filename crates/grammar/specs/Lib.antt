@@ -2,6 +2,7 @@
 pub mod Grammar
 pub mod Automaton
 pub mod Depth
+pub mod Nesting
 pub mod Rows
 pub mod Tokens
 pub mod Moves
@@ -14,3 +15,4 @@ pub mod RowLaws
 pub mod Unread
 pub mod Cases
 pub mod FewRows
+pub mod NestingLaws

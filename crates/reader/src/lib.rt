@@ -7,6 +7,7 @@ ghost use Prim.Native.Nat.{ℕ, _+_, _≤_};
 ghost use mathlib.Core.List.{List};
 ghost use lib.ListN.{length, getD};
 ghost use Rattle.grammar.specs.Automaton.{reads};
+ghost use Rattle.grammar.specs.Nesting.{Bounded};
 ghost use Rattle.grammar.specs.Tokens.{unread};
 ghost use Rattle.reader.specs.Answer.{answer, Written};
 ghost use Rattle.reader.specs.Front.{«Reads-specification», «Reads-front», ended};
@@ -143,8 +144,9 @@ fn specifications(kinds: &[u8]) -> Front
 }
 
 // The program that the tokens are: its raw rows go into the table, numbered from the first row that no specification declares.
+// `Bounded` is required for the stack alone: the readers' calls nest as the program does, so the tokens are to be recognized before they are read.
 pub fn program(kinds: &[u8], values: &[u32], table: &mut [u32; 4096]) -> Answer
-    requires { ⌜ (length (now kinds) ≤ 1024) × (length (now kinds) ≤ length (now values)) ⌝ }
+    requires { ⌜ (length (now kinds) ≤ 1024) × (length (now kinds) ≤ length (now values)) × (Bounded (reads (unread (now kinds) (now values) 0))) ⌝ }
     ensures { λ r. ⌜ (r ≡ answer (length (now (kinds .entry))) (reads (unread (now (kinds .entry)) (now (values .entry)) 0))) × Written (reads (unread (now (kinds .entry)) (now (values .entry)) 0)) (now (table .entry)) (now (table .exit)) ⌝ }
 {
     let mut pending = [0u16; 1024];

@@ -17,7 +17,7 @@ use Rattle.grammar.specs.Tokens.{token-of}
 use Rattle.grammar.specs.Unread.{token-case, at-is}
 use Rattle.recognizer.specs.declared.Frame.{Frame}
 use Rattle.recognizer.specs.declared.Action.{Action}
-use Rattle.recognizer.specs.Pushdown.{frame, braces-open, at, deeper, level-process, level-list, level-expression, level-operand, level-chain, operator-before, frames-process, frames-list, frames-expression, frames-operand, frames-chain, mode-partial, configuration, after-process, after-expression, links, after-operand, start-operand, start-expression, start-process, specify, innermost, act, doing, complete}
+use Rattle.recognizer.specs.Pushdown.{frame, braces-open, at, counted, level-process, level-list, level-expression, level-operand, level-chain, operator-before, frames-process, frames-list, frames-expression, frames-operand, frames-chain, mode-partial, configuration, after-process, after-expression, links, after-operand, start-operand, start-expression, start-process, specify, innermost, act, doing, complete}
 
 -- an action is the automaton's move, where the stack is s
 abbrev pub Agrees : Move → Action → List Frame → Type 0
@@ -33,11 +33,11 @@ either-name : (s : List Frame) (b c : Bool) (x y : Move) (X Y : Action) → b �
 either-name s b c x y X Y e f g = subst (λ (d : Bool). Agrees (pick b x y) (pick d X Y) s) e (keep s b x y X Y f g)
 
 -- a list in braces has one frame
-list-frame : (c : ListContext) → frames-list c ≡ frame braces-open 0 (level-process (list-base c)) ∷ frames-process (list-base c)
+list-frame : (c : ListContext) → frames-list c ≡ frame braces-open 0 (counted (level-process (list-base c))) ∷ frames-process (list-base c)
 list-frame (opened c) = refl
 list-frame (also p c) = list-frame c
 
-list-level : (c : ListContext) → level-list c ≡ deeper (level-process (list-base c))
+list-level : (c : ListContext) → level-list c ≡ suc (level-process (list-base c))
 list-level (opened c) = refl
 list-level (also p c) = list-level c
 
@@ -89,7 +89,7 @@ module _ (t : Token) (k : ℕ) (same : (m : ℕ) → 2 < m → is m t ≡ eqb k 
           by (inl e) = omega (arith, eqb-true o kind.plus e)
           by (inr e) = omega (arith, leb-true kind.times o (both (leb kind.times o) (leb o kind.xor) e .0))
 
-  ends-next : (o : ℕ) (c : ChainContext) (a : Operand) → Agrees (step-have-operand (next o c) a t) (after-operand (o + 2) (level-chain c) (innermost (frames-chain c)) k) (frames-chain c)
+  ends-next : (o : ℕ) (c : ChainContext) (a : Operand) → Agrees (step-have-operand (next o c) a t) (after-operand (o + 2) (counted (level-chain c)) (innermost (frames-chain c)) k) (frames-chain c)
   ends-next o c a =
       rw (ne-eqb (o + 2) 0 (omega arith))
       (either-name _ _ _ _ _ _ _ (same-operator o) refl
@@ -99,31 +99,31 @@ module _ (t : Token) (k : ℕ) (same : (m : ℕ) → 2 < m → is m t ≡ eqb k 
 small-not : (n k v : ℕ) → k < n → is n (number v) ≡ eqb k n
 small-not n k v h = sym (ne-eqb k n (omega arith))
 
-ends-first : (c : ExpressionContext) (a : Operand) (i k v : ℕ) → Agrees (step-have-operand (first c) a (token-of i k v)) (after-operand 0 (level-expression c) (innermost (frames-expression c)) k) (frames-expression c)
+ends-first : (c : ExpressionContext) (a : Operand) (i k v : ℕ) → Agrees (step-have-operand (first c) a (token-of i k v)) (after-operand 0 (counted (level-expression c)) (innermost (frames-expression c)) k) (frames-expression c)
 ends-first c a i k v =
-    token-case (λ k t. Agrees (step-have-operand (first c) a t) (after-operand 0 (level-expression c) (innermost (frames-expression c)) k) (frames-expression c)) i k v
+    token-case (λ k t. Agrees (step-have-operand (first c) a t) (after-operand 0 (counted (level-expression c)) (innermost (frames-expression c)) k) (frames-expression c)) i k v
     (ends-expression (number v) 1 (λ m h. small-not m 1 v (omega arith)) c _)
     (ends-expression (name i) 2 (λ m h. small-not m 2 i (omega arith)) c _)
     (λ y z. keep _ (is-diadic k) _ _ _ _ refl (ends-expression (mark k) k (λ m h. refl) c _))
 
-ends-operand : (c : OperandContext) (a : Operand) (i k v : ℕ) → Agrees (step-have-operand c a (token-of i k v)) (after-operand (operator-before c) (level-operand c) (innermost (frames-operand c)) k) (frames-operand c)
+ends-operand : (c : OperandContext) (a : Operand) (i k v : ℕ) → Agrees (step-have-operand c a (token-of i k v)) (after-operand (operator-before c) (counted (level-operand c)) (innermost (frames-operand c)) k) (frames-operand c)
 ends-operand (first c) a i k v = ends-first c a i k v
 ends-operand (under o c) a i k v = ends-expression (token-of i k v) k (λ m h. at-is m i k v h) c _
 ends-operand (next o c) a i k v = ends-next (token-of i k v) k (λ m h. at-is m i k v h) o c a
 
-starts-operand : (c : OperandContext) (i k v : ℕ) → Agrees (step-operand (token-of i k v) c) (start-operand (operator-before c) (level-operand c) k) (frames-operand c)
+starts-operand : (c : OperandContext) (i k v : ℕ) → Agrees (step-operand (token-of i k v) c) (start-operand (operator-before c) (counted (level-operand c)) k) (frames-operand c)
 starts-operand c i k v =
-    token-case (λ k t. Agrees (step-operand t c) (start-operand (operator-before c) (level-operand c) k) (frames-operand c)) i k v refl refl
+    token-case (λ k t. Agrees (step-operand t c) (start-operand (operator-before c) (counted (level-operand c)) k) (frames-operand c)) i k v refl refl
     (λ y z. rw (ne-eqb k 1 y, ne-eqb k 2 z) (keep _ (eqb k kind.open-bracket) _ _ _ _ refl refl))
 
-starts-expression : (c : ExpressionContext) (i k v : ℕ) → Agrees (step-expression (token-of i k v) c) (start-expression (level-expression c) k) (frames-expression c)
+starts-expression : (c : ExpressionContext) (i k v : ℕ) → Agrees (step-expression (token-of i k v) c) (start-expression (counted (level-expression c)) k) (frames-expression c)
 starts-expression c i k v =
-    token-case (λ k t. Agrees (step-expression t c) (start-expression (level-expression c) k) (frames-expression c)) i k v refl refl
+    token-case (λ k t. Agrees (step-expression t c) (start-expression (counted (level-expression c)) k) (frames-expression c)) i k v refl refl
     (λ y z. rw (ne-eqb k 1 y, ne-eqb k 2 z) (keep _ (is-monadic k) _ _ _ _ refl (keep _ (eqb k kind.open-bracket) _ _ _ _ refl refl)))
 
-starts-process : (c : ProcessContext) (i k v : ℕ) → Agrees (step-process (token-of i k v) c) (start-process (level-process c) k) (frames-process c)
+starts-process : (c : ProcessContext) (i k v : ℕ) → Agrees (step-process (token-of i k v) c) (start-process (counted (level-process c)) k) (frames-process c)
 starts-process c i k v =
-    token-case (λ k t. Agrees (step-process t c) (start-process (level-process c) k) (frames-process c)) i k v refl refl
+    token-case (λ k t. Agrees (step-process t c) (start-process (counted (level-process c)) k) (frames-process c)) i k v refl refl
     (λ y z. rw (ne-eqb k 2 z) (keep _ (eqb k kind.skip) _ _ _ _ refl (keep _ (eqb k kind.stop) _ _ _ _ refl (keep _ (eqb k kind.open-brace) _ _ _ _ refl (keep _ (eqb k kind.if) _ _ _ _ refl (keep _ (eqb k kind.while) _ _ _ _ refl (keep _ (eqb k kind.comment) _ _ _ _ refl refl)))))))
 
 specifies : (b : List Specification) (n : ℕ) (x : Partial) (i k v : ℕ) → Agrees (step-partial b n x (token-of i k v)) (specify (mode-partial x) k) []

@@ -2,5 +2,5 @@
 pub mod Pushdown
 pub mod Stack
 pub mod Follows
-pub mod Nested
+pub mod Levels
 pub mod Recognized

@@ -1,5 +1,5 @@
 -- The grammar's automaton without its trees: a pushdown automaton, whose stack has a frame for each part that a closing token must end. Definitions.
--- A level counts what the hole of a tree stands in, as depth does, and stops at 32. Rests on the kinds of tokens and the automaton's states.
+-- A level counts what the hole of a tree stands in, as depth does; the recognizer counts up to the limit of depth. Rests on the kinds of tokens and the automaton's states.
 use mathlib.Core.Bool.{Bool, true, false}
 use mathlib.Core.List.{List, [], _∷_}
 use Prim.Native.Nat.{ℕ, zero, suc, _+_, _-_, _*_}
@@ -9,6 +9,7 @@ use Rattle.word.specs.Choice.{pick}
 use Rattle.spelling.specs.Kinds as kind
 use Rattle.grammar.specs.Grammar.{is-monadic, is-diadic, is-associative}
 use Rattle.grammar.specs.Automaton.{ProcessContext, top, in-braces, in-then, in-else, in-body, in-comment, ListContext, opened, also, ExpressionContext, in-assign, in-target, in-assign-element, in-if, in-while, in-brackets, in-subscript, OperandContext, first, under, next, ChainContext, after, link, Partial, var-read, array-read, array-named, array-opened, array-sized, val-read, val-named, val-equated, whole, State, at-front, specifying, need-process, brace-opened, target, target-element, have-process, need-expression, need-operand, name-read, have-operand, have-expression}
+use Rattle.grammar.specs.Depth.{depth-limit}
 use Rattle.recognizer.specs.declared.Frame.{Frame}
 use Rattle.recognizer.specs.declared.Action.{Action}
 
@@ -53,20 +54,25 @@ at m o l s = record { mode = m; operator = o; level = l; stack = s }
 
 -- one level more
 abbrev pub deeper : ℕ → ℕ
-deeper l = pick (ltb l 32) (l + 1) 32
+deeper l = pick (ltb l depth-limit) (l + 1) depth-limit
+
+-- a level as far as it is counted
+abbrev pub counted : ℕ → ℕ
+counted zero = 0
+counted (suc l) = deeper (counted l)
 
 -- ── the automaton's states, as configurations ──
 abbrev mutual
   pub level-process : ProcessContext → ℕ
   level-process (top b) = 0
   level-process (in-braces k) = level-list k
-  level-process (in-then e k) = deeper (level-process k)
-  level-process (in-else e p k) = deeper (level-process k)
-  level-process (in-body e k) = deeper (level-process k)
+  level-process (in-then e k) = suc (level-process k)
+  level-process (in-else e p k) = suc (level-process k)
+  level-process (in-body e k) = suc (level-process k)
   level-process (in-comment k) = level-process k
 
   pub level-list : ListContext → ℕ
-  level-list (opened k) = deeper (level-process k)
+  level-list (opened k) = suc (level-process k)
   level-list (also p k) = level-list k
 
 abbrev mutual
@@ -76,17 +82,17 @@ abbrev mutual
   level-expression (in-assign-element n e k) = 0
   level-expression (in-if k) = 0
   level-expression (in-while k) = 0
-  level-expression (in-brackets k) = deeper (level-operand k)
-  level-expression (in-subscript n k) = deeper (level-operand k)
+  level-expression (in-brackets k) = suc (level-operand k)
+  level-expression (in-subscript n k) = suc (level-operand k)
 
   pub level-operand : OperandContext → ℕ
   level-operand (first k) = level-expression k
-  level-operand (under o k) = deeper (level-expression k)
+  level-operand (under o k) = suc (level-expression k)
   level-operand (next o k) = level-chain k
 
   pub level-chain : ChainContext → ℕ
-  level-chain (after a k) = deeper (level-expression k)
-  level-chain (link a k) = deeper (level-chain k)
+  level-chain (after a k) = suc (level-expression k)
+  level-chain (link a k) = suc (level-chain k)
 
 abbrev pub operator-before : OperandContext → ℕ
 operator-before (first k) = 0
@@ -97,24 +103,24 @@ abbrev mutual
   pub frames-process : ProcessContext → List Frame
   frames-process (top b) = []
   frames-process (in-braces k) = frames-list k
-  frames-process (in-then e k) = frame then-open 0 (level-process k) ∷ frames-process k
+  frames-process (in-then e k) = frame then-open 0 (counted (level-process k)) ∷ frames-process k
   frames-process (in-else e p k) = frames-process k
   frames-process (in-body e k) = frames-process k
   frames-process (in-comment k) = frames-process k
 
   pub frames-list : ListContext → List Frame
-  frames-list (opened k) = frame braces-open 0 (level-process k) ∷ frames-process k
+  frames-list (opened k) = frame braces-open 0 (counted (level-process k)) ∷ frames-process k
   frames-list (also p k) = frames-list k
 
 abbrev mutual
   pub frames-expression : ExpressionContext → List Frame
   frames-expression (in-assign n k) = frames-process k
-  frames-expression (in-target n k) = frame target-open 0 (level-process k) ∷ frames-process k
+  frames-expression (in-target n k) = frame target-open 0 (counted (level-process k)) ∷ frames-process k
   frames-expression (in-assign-element n e k) = frames-process k
-  frames-expression (in-if k) = frame if-open 0 (level-process k) ∷ frames-process k
-  frames-expression (in-while k) = frame while-open 0 (level-process k) ∷ frames-process k
-  frames-expression (in-brackets k) = frame brackets-open (operator-before k) (level-operand k) ∷ frames-operand k
-  frames-expression (in-subscript n k) = frame subscript-open (operator-before k) (level-operand k) ∷ frames-operand k
+  frames-expression (in-if k) = frame if-open 0 (counted (level-process k)) ∷ frames-process k
+  frames-expression (in-while k) = frame while-open 0 (counted (level-process k)) ∷ frames-process k
+  frames-expression (in-brackets k) = frame brackets-open (operator-before k) (counted (level-operand k)) ∷ frames-operand k
+  frames-expression (in-subscript n k) = frame subscript-open (operator-before k) (counted (level-operand k)) ∷ frames-operand k
 
   pub frames-operand : OperandContext → List Frame
   frames-operand (first k) = frames-expression k
@@ -139,15 +145,15 @@ mode-partial (whole s) = 9
 abbrev pub configuration : State → Configuration
 configuration (at-front b n) = at 0 0 0 []
 configuration (specifying b n x) = at (mode-partial x) 0 0 []
-configuration (need-process k) = at 10 0 (level-process k) (frames-process k)
-configuration (brace-opened k) = at 11 0 (level-process k) (frame braces-open 0 (level-process k) ∷ frames-process k)
-configuration (target n k) = at 12 0 (level-process k) (frames-process k)
-configuration (target-element n e k) = at 13 0 (level-process k) (frames-process k)
+configuration (need-process k) = at 10 0 (counted (level-process k)) (frames-process k)
+configuration (brace-opened k) = at 11 0 (counted (level-process k)) (frame braces-open 0 (counted (level-process k)) ∷ frames-process k)
+configuration (target n k) = at 12 0 (counted (level-process k)) (frames-process k)
+configuration (target-element n e k) = at 13 0 (counted (level-process k)) (frames-process k)
 configuration (have-process p k) = at 14 0 0 (frames-process k)
-configuration (need-expression k) = at 15 0 (level-expression k) (frames-expression k)
-configuration (need-operand k) = at 16 (operator-before k) (level-operand k) (frames-operand k)
-configuration (name-read n k) = at 17 (operator-before k) (level-operand k) (frames-operand k)
-configuration (have-operand a k) = at 18 (operator-before k) (level-operand k) (frames-operand k)
+configuration (need-expression k) = at 15 0 (counted (level-expression k)) (frames-expression k)
+configuration (need-operand k) = at 16 (operator-before k) (counted (level-operand k)) (frames-operand k)
+configuration (name-read n k) = at 17 (operator-before k) (counted (level-operand k)) (frames-operand k)
+configuration (have-operand a k) = at 18 (operator-before k) (counted (level-operand k)) (frames-operand k)
 configuration (have-expression e k) = at 18 1 0 (frames-expression k)
 
 -- ── what a token does ──
@@ -283,9 +289,9 @@ ends-at m h = pick (eqb h 0) (pick (eqb m 14) true (ltb 16 m)) false
 abbrev pub complete : Configuration → Bool
 complete c = ends-at (c .mode) (length (c .stack))
 
--- level 32 was reached
+-- the limit was reached
 abbrev pub deep-by : Bool → ℕ → Bool
-deep-by deep l = pick (eqb l 32) true deep
+deep-by deep l = pick (eqb l depth-limit) true deep
 
 -- the first h rows of a table, as frames, the last one innermost
 unfoldable pub frames : List ℕ → ℕ → List Frame

@@ -1,24 +1,22 @@
--- What the recognizer's answer says of the tokens, and why. Definitions and laws; rests on Follows and Nested.
+-- What the recognizer's answer says of the tokens, and why. Definitions and laws; rests on Follows and Levels.
 use mathlib.Core.Path.{_≡_, refl, sym, ap, subst, _∙_}
 use mathlib.Core.Bool.{Bool, true, false}
 use mathlib.Core.List.{List, [], _∷_}
-use Prim.Native.Nat.{ℕ, _+_, _-_, _<_, _≤_, max}
+use Prim.Native.Nat.{ℕ, _+_, _<_, _≤_, max}
 use native.Mathlib.Omega.{arith}
-use lib.Dec.{eqb}
 use lib.ListN.{length, getD}
-use borrow.Author.Tests.{eqb-true}
 use Rattle.word.specs.Choice.{pick}
-use Rattle.word.specs.ChoiceLaws.{by-test}
 use Rattle.grammar.specs.Grammar.{Token, Program}
 use Rattle.grammar.specs.Automaton.{Partial, var-read, array-read, array-named, array-opened, array-sized, val-read, val-named, val-equated, whole, State, at-front, specifying, need-process, brace-opened, target, target-element, have-process, need-expression, need-operand, name-read, have-operand, have-expression, Move, go, none, step, Reading, accepted, refused, final, onward, run, reads}
 use Rattle.grammar.specs.Tokens.{token-of, unread}
 use Rattle.grammar.specs.Unread.{unread-cons, unread-end, length-unread}
-use Rattle.grammar.specs.Depth.{depth, deepest}
+use Rattle.grammar.specs.Depth.{depth, deepest, depth-limit}
+use Rattle.grammar.specs.Nesting.{Bounded}
 use Rattle.recognizer.specs.declared.Recognized.{Recognized}
 use Rattle.recognizer.specs.declared.Recognized.the-variants as answer
 use Rattle.recognizer.specs.Pushdown.{Configuration, at, configuration, mode-partial, advance, doing, complete, deep-by}
 use Rattle.recognizer.specs.Follows.{Agrees, follows, Ends, finishes}
-use Rattle.recognizer.specs.Nested.{Deep, deep-there, deep-on}
+use Rattle.recognizer.specs.Levels.{Levels, levels-first, levels-next, levels-nest, levels-deep}
 
 -- no state is refused
 partial-not-refused : (x : Partial) → mode-partial x ≡ 19 → ⊥
@@ -48,24 +46,24 @@ not-refused (have-expression x c) e = omega (arith, e)
 
 -- the answer of n tokens that read as r
 abbrev pub Says : ℕ → Reading → Recognized → Type 0
-Says n r answer.Program = (p : Program) × (r ≡ accepted p)
-Says n r answer.Deep = (p : Program) × (r ≡ accepted p) × (32 < max (depth p) (deepest p))
+Says n r answer.Program = Bounded r
+Says n r answer.Deep = (p : Program) × (r ≡ accepted p) × (depth-limit < max (depth p) (deepest p))
 Says n r (answer.Bad x) = (u : List Token) × (r ≡ refused u) × (x + length u ≡ n)
 
 abbrev pub ended : Bool → Bool → ℕ → Recognized
 ended complete deep n = pick complete (pick deep answer.Deep answer.Program) (answer.Bad n)
 
 module _ (kinds values : List ℕ) where
-  -- the automaton's state at token i is that of the configuration; where level 32 was reached, all it accepts is too deep
+  -- the automaton's state at token i is that of the configuration; its tree nests within the limit where no level reached that, and else is too deep
   pub record Stands (i : ℕ) (c : Configuration) (deep : Bool) : Type 0 where
     pub state : State
     pub same : configuration state ≡ c
     pub comes : reads (unread kinds values 0) ≡ run (unread kinds values i) state
-    pub too-deep : deep ≡ true → Deep state
+    pub levels : Levels deep state
 
   pub stands-first : Stands 0 (at 0 0 0 []) false
   unfolding reads
-  stands-first = record { state = at-front [] 0; same = refl; comes = refl; too-deep = λ e. let z : _≡_ {A = ℕ} 0 1 = cc in absurd (omega arith) }
+  stands-first = record { state = at-front [] 0; same = refl; comes = refl; levels = levels-first }
 
   module _ (i : ℕ) (b : i < length kinds) (c c′ : Configuration) (deep : Bool) (h : Stands i c deep) (e : c′ ≡ advance c (getD kinds i 0)) where
     abbrev t : Token
@@ -95,17 +93,17 @@ module _ (kinds values : List ℕ) where
               state = s;
               same = sym g ∙ sym e;
               comes = after (go s) q;
-              too-deep = λ y. by-test (λ (x : Bool). Deep s) (eqb (c′ .level) 32) (λ x. deep-there s (ap (λ (d : Configuration). d .level) (sym g ∙ sym e) ∙ eqb-true (c′ .level) 32 x)) (λ x. deep-on (h .state) s t q (h .too-deep (ap (λ (w : Bool). pick w true deep) (sym x) ∙ y)));
+              levels = subst (λ (d : Configuration). Levels (deep-by deep (d .level)) s) (sym g ∙ sym e) (levels-next (h .state) s t q deep (h .levels));
             }
 
   pub stands-last : (i : ℕ) (c : Configuration) (deep : Bool) → Stands i c deep → i ≤ length kinds → length kinds ≤ i → Says (length kinds) (reads (unread kinds values 0)) (ended (complete c) deep i)
   unfolding run
-  stands-last i c deep h a b = subst (λ (d : Configuration). Says (length kinds) (reads (unread kinds values 0)) (ended (complete d) deep i)) (h .same) (by (final (h .state)) (complete (configuration (h .state))) refl (finishes (h .state)) deep (h .too-deep))
+  stands-last i c deep h a b = subst (λ (d : Configuration). Says (length kinds) (reads (unread kinds values 0)) (ended (complete d) deep i)) (h .same) (by (final (h .state)) (complete (configuration (h .state))) refl (finishes (h .state)) deep (h .levels))
     where
       there : reads (unread kinds values 0) ≡ final (h .state)
       there = h .comes ∙ ap (λ (w : List Token). run w (h .state)) (unread-end kinds values i b)
 
-      by : (r : Reading) (x : Bool) → final (h .state) ≡ r → Ends r x → (y : Bool) → (y ≡ true → Deep (h .state)) → Says (length kinds) (reads (unread kinds values 0)) (ended x y i)
+      by : (r : Reading) (x : Bool) → final (h .state) ≡ r → Ends r x → (y : Bool) → Levels y (h .state) → Says (length kinds) (reads (unread kinds values 0)) (ended x y i)
       by (refused u) x q g y k = rw (g .1) (u, there ∙ q, omega (arith, a, b, ap length (g .0)))
-      by (accepted p) x q g true k = rw g (p, there ∙ q, k refl [] p q)
-      by (accepted p) x q g false k = rw g (p, there ∙ q)
+      by (accepted p) x q g true k = rw g (p, there ∙ q, levels-deep (h .state) p q k)
+      by (accepted p) x q g false k = rw g (record { tree = p; reading = there ∙ q; bounded = levels-nest (h .state) p q k })

@@ -1,4 +1,4 @@
--- `recognizer::recognize` meets its contract. The invariant: the automaton's state at token i is the configuration of control and table, and where level 32 was reached all it accepts is too deep.
+-- `recognizer::recognize` meets its contract. The invariant (`Stands`): the automaton's state at token i is the configuration of control and table, and the tree so far nests within 32, or is too deep where `deep` says so.
 use mathlib.Core.Path.{_≡_, subst}
 use mathlib.Core.List.{List}
 use Prim.Native.Nat.{ℕ, _-_, _≤_}
