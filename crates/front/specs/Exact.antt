@@ -2,7 +2,7 @@
 use mathlib.Core.Path.{_≡_, refl, ap, _∙_}
 use mathlib.Core.Bool.{Bool, true, false}
 use mathlib.Core.List.{List}
-use Prim.Native.Nat.{ℕ, _+_, _*_, _≤_, max}
+use Prim.Native.Nat.{ℕ, _+_, _*_}
 use native.Mathlib.Omega.{arith}
 use lib.Dec.{ltb}
 use lib.ListN.{length}
@@ -14,7 +14,7 @@ use Rattle.grammar.specs.Grammar as grammar
 use Rattle.grammar.specs.Automaton as automaton
 use Rattle.grammar.specs.Automaton.{reads}
 use Rattle.grammar.specs.Exact.{accepts, accepted-text}
-use Rattle.grammar.specs.Depth.{depth, deepest}
+use Rattle.grammar.specs.Depth.{too-deep}
 use Rattle.program.specs.Tree.{Program}
 use Rattle.names.specs.Complaints as names
 use Rattle.names.specs.Complaints.{complaints, least}
@@ -32,7 +32,7 @@ accepts-X source ts p table code x r =
     ap (tokened source table code) (x .tokens)
     ∙ rw (le-ltb table (4 * length ts) (r .rows), le-ltb code (48 * length ts + 256) (r .image))
     (ap (parsed source ts) (ap reads (x .grammatical) ∙ accepts p (x .proper))
-    ∙ rw (le-ltb 32 (max (depth p) (deepest p)) (x .shallow), x .nameable))
+    ∙ rw (x .shallow, x .nameable))
 
 -- what was accepted
 pub record Accepted (source : List ℕ) (table code n : ℕ) (q : Program) : Type 0 where
@@ -51,7 +51,7 @@ pub accepted-is-X : (source : List ℕ) (table code n : ℕ) (q : Program) → f
 unfolding front named
 accepted-is-X source table code n q h = by-tokens (token.outcome source) refl h
   where
-    by-verdict : (ts : List Entry) (p : grammar.Program) → token.outcome source ≡ token.read ts → Room (length ts) table code → reads (symbols ts 0) ≡ automaton.accepted p → max (depth p) (deepest p) ≤ 32
+    by-verdict : (ts : List Entry) (p : grammar.Program) → token.outcome source ≡ token.read ts → Room (length ts) table code → reads (symbols ts 0) ≡ automaton.accepted p → too-deep p ≡ false
         → (v : names.Verdict) → least (complaints (text-of source ts) (place-of ts) p) ≡ v → judged v (length ts) (resolve (text-of source ts) p) ≡ accepted n q → Accepted source table code n q
     by-verdict ts p e r g d (names.refused c) k h = not-accepted _ _ n q h
     by-verdict ts p e r g d names.fine k h =
@@ -66,12 +66,12 @@ accepted-is-X source table code n q h = by-tokens (token.outcome source) refl h
         }
 
     by-depth : (ts : List Entry) (p : grammar.Program) → token.outcome source ≡ token.read ts → Room (length ts) table code → reads (symbols ts 0) ≡ automaton.accepted p
-        → (b : Bool) → ltb 32 (max (depth p) (deepest p)) ≡ b → pick b (refused 7 0) (judged (least (complaints (text-of source ts) (place-of ts) p)) (length ts) (resolve (text-of source ts) p)) ≡ accepted n q → Accepted source table code n q
+        → (b : Bool) → too-deep p ≡ b → pick b (refused 7 0) (judged (least (complaints (text-of source ts) (place-of ts) p)) (length ts) (resolve (text-of source ts) p)) ≡ accepted n q → Accepted source table code n q
     by-depth ts p e r g true d h = not-accepted _ _ n q h
-    by-depth ts p e r g false d h = by-verdict ts p e r g (ltb-false 32 (max (depth p) (deepest p)) d) (least (complaints (text-of source ts) (place-of ts) p)) refl h
+    by-depth ts p e r g false d h = by-verdict ts p e r g d (least (complaints (text-of source ts) (place-of ts) p)) refl h
 
     by-reading : (ts : List Entry) → token.outcome source ≡ token.read ts → Room (length ts) table code → (v : automaton.Reading) → reads (symbols ts 0) ≡ v → parsed source ts v ≡ accepted n q → Accepted source table code n q
-    by-reading ts e r (automaton.accepted p) g h = by-depth ts p e r g (ltb 32 (max (depth p) (deepest p))) refl h
+    by-reading ts e r (automaton.accepted p) g h = by-depth ts p e r g (too-deep p) refl h
     by-reading ts e r (automaton.refused u) g h = not-accepted _ _ n q h
 
     by-room : (ts : List Entry) → token.outcome source ≡ token.read ts → (a : Bool) → ltb table (4 * length ts) ≡ a → (b : Bool) → ltb code (48 * length ts + 256) ≡ b

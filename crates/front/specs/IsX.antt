@@ -1,11 +1,12 @@
 -- When a source is X, and the room that it takes. Definitions; rests on tokens, grammar and names.
 use mathlib.Core.Path.{_≡_}
+use mathlib.Core.Bool.{false}
 use mathlib.Core.List.{List, []}
-use Prim.Native.Nat.{ℕ, _+_, _*_, _≤_, max}
+use Prim.Native.Nat.{ℕ, _+_, _*_, _≤_}
 use Rattle.token.specs.Tokens as token
 use Rattle.token.specs.Tokens.{Entry}
 use Rattle.grammar.specs.Grammar.{Program, text-program, well-formed}
-use Rattle.grammar.specs.Depth.{depth, deepest}
+use Rattle.grammar.specs.Depth.{too-deep}
 use Rattle.names.specs.Complaints.{complaints}
 use Rattle.front.specs.Symbols.{place-of, text-of, symbols}
 
@@ -14,7 +15,7 @@ pub record IsX (source : List ℕ) (ts : List Entry) (p : Program) : Type 0 wher
   pub tokens : token.outcome source ≡ token.read ts
   pub proper : well-formed p
   pub grammatical : symbols ts 0 ≡ text-program p
-  pub shallow : max (depth p) (deepest p) ≤ 32
+  pub shallow : too-deep p ≡ false
   pub nameable : complaints (text-of source ts) (place-of ts) p ≡ []
 
 -- room for so many tokens: "4 x tokens words", "48 x tokens + 256 bytes"

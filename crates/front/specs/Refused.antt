@@ -6,7 +6,7 @@ use Prim.Native.Nat.{ℕ, zero, suc, _+_, _*_, _<_, _≤_, max}
 use native.Mathlib.Omega.{arith}
 use lib.Dec.{eqb, ltb, leb}
 use lib.ListN.{length}
-use borrow.Author.Tests.{eqb-true}
+use borrow.Author.Tests.{eqb-true, ltb-false}
 use Rattle.word.specs.Choice.{pick}
 use Rattle.word.specs.ChoiceLaws.{by-test}
 use Rattle.spelling.specs.Kinds as kind
@@ -21,7 +21,7 @@ use Rattle.grammar.specs.Automaton as automaton
 use Rattle.grammar.specs.Automaton.{reads}
 use Rattle.program.specs.Tree.{Program}
 use Rattle.program.specs.Sound.{Sound}
-use Rattle.grammar.specs.Depth.{depth, deepest}
+use Rattle.grammar.specs.Depth.{depth, deepest, depth-limit, too-deep}
 use Rattle.names.specs.Complaints as names
 use Rattle.names.specs.Complaints.{complaints, Verdict, fine, least}
 use Rattle.names.specs.Resolve.{resolve}
@@ -61,7 +61,7 @@ accepted-sound source table code n q h =
     let x = a .is-X in
     let w : Words (text-program (a .tree)) = rw (x .grammatical) at (symbol-words (length source) 0 (a .ts) 0 (placed source (a .ts) (x .tokens))) in
     let d = same-deepest (text-of source (a .ts)) (place-of (a .ts)) (a .tree) (x .nameable) in
-    rw (a .program) (sound (text-of source (a .ts)) (place-of (a .ts)) (a .tree) w (x .nameable) (omega (arith, x .shallow)))
+    rw (a .program) (sound (text-of source (a .ts)) (place-of (a .ts)) (a .tree) w (x .nameable) (omega (arith, ltb-false depth-limit (max (depth (a .tree)) (deepest (a .tree))) (x .shallow))))
 
 -- ── the least complaint is the first ──
 
@@ -143,7 +143,7 @@ judged-numbered source (names.refused c) n q h = record { low = omega (arith, h 
 named-numbered : (source : List ℕ) (ts : List Entry) (p : grammar.Program) → Placed (length source) 0 ts → Answered source (named source ts p)
 unfolding named
 named-numbered source ts p h =
-    by-test (λ (b : Bool). Answered source (pick b (refused 7 0) (judged (least (complaints (text-of source ts) (place-of ts) p)) (length ts) (resolve (text-of source ts) p)))) (ltb 32 (max (depth p) (deepest p)))
+    by-test (λ (b : Bool). Answered source (pick b (refused 7 0) (judged (least (complaints (text-of source ts) (place-of ts) p)) (length ts) (resolve (text-of source ts) p)))) (too-deep p)
     (λ e. record { low = omega arith; high = omega arith; inside = omega arith })
     (λ e. judged-numbered source (least (complaints (text-of source ts) (place-of ts) p)) (length ts) _ (judged-within (text-of source ts) (place-of ts) (length source) (λ k. places-inside (length source) 0 ts k h) p))
 
