@@ -177,6 +177,7 @@ fn parse_arrays(
 
 // What a source comes to, with a table of so many words and a code buffer of so many bytes; accepted, its rows are in `table`.
 // Required is the array's length, as its type says it: a proof is not told of it otherwise.
+// Open: `table` where the source is refused, and past the rows where it is accepted.
 pub fn analyse(
     source: &[u8],
     table_words: usize,

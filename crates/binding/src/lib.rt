@@ -183,6 +183,7 @@ fn declare(
 }
 
 // Expected form: the name table filled at the start of checking. The specifications before token `start`, the process's first.
+// Open: both tables where a specification is refused; and everything where the tokens are no program, or `start` is not its process's first token.
 pub fn bind(
     source: &[u8],
     kinds: &[u8],

@@ -145,6 +145,7 @@ fn specifications(kinds: &[u8]) -> Front
 
 // The program that the tokens are: its raw rows go into the table, numbered from the first row that no specification declares.
 // `Bounded` is required for the stack alone: the readers' calls nest as the program does, so the tokens are to be recognized before they are read.
+// Open: the table where the tokens are no program.
 pub fn program(kinds: &[u8], values: &[u32], table: &mut [u32; 4096]) -> Answer
     requires { ⌜ (length (now kinds) ≤ 1024) × (length (now kinds) ≤ length (now values)) × (Bounded (reads (unread (now kinds) (now values) 0))) ⌝ }
     ensures { λ r. ⌜ (r ≡ answer (length (now (kinds .entry))) (reads (unread (now (kinds .entry)) (now (values .entry)) 0))) × Written (reads (unread (now (kinds .entry)) (now (values .entry)) 0)) (now (table .entry)) (now (table .exit)) ⌝ }

@@ -491,6 +491,7 @@ fn at_end(complete: bool, deep: bool, n: usize) -> Recognized
 }
 
 // Whether the tokens are a program, and where not; the table is the stack.
+// Open: what it leaves in the table.
 pub fn recognize(kinds: &[u8], table: &mut [u32; 4096]) -> Recognized
     requires { ⌜ (length (now kinds) ≤ 1024) × (length (now table) ≡ 4096) ⌝ }
     ensures { λ r. ⌜ ((values : List ℕ) → Says (length (now (kinds .entry))) (reads (unread (now (kinds .entry)) values 0)) r) × (length (now (table .exit)) ≡ 4096) ⌝ }

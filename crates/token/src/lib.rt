@@ -255,6 +255,7 @@ fn scan(source: &[u8], kinds: &mut [u8], places: &mut [u32], values: &mut [u32])
 }
 
 // The tokens of a source: their kinds, places and values into the arrays, and how many there are; or the refusal.
+// Open: the arrays past that number, and all of them where the source is refused.
 pub fn tokens(
     source: &[u8],
     kinds: &mut [u8; 1024],
