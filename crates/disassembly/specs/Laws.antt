@@ -30,9 +30,13 @@ length-after : (at first h : ℕ) (d : Decoded) → length (after at first h d) 
 length-after at first h Unknown = omega arith
 length-after at first h (Known i) = simp length-append (omega (arith, length-second first h, length-instruction at i))
 
-pub line-fits : (at first h : ℕ) → fitted (line at first h) ≡ line at first h
+-- address, halfwords, mnemonic and operands take at most 58 bytes
+pub line-short : (at first h : ℕ) → length (line at first h) ≤ 58
 unfolding line
-line-fits at first h = take-all 128 (line at first h) (simp length-append (omega (arith, length-after at first h (decodeOf first h))))
+line-short at first h = simp length-append (omega (arith, length-after at first h (decodeOf first h)))
+
+pub line-fits : (at first h : ℕ) → fitted (line at first h) ≡ line at first h
+line-fits at first h = take-all 128 (line at first h) (omega (arith, line-short at first h))
 
 -- ── what is read back ──
 
@@ -50,18 +54,14 @@ second-back at first h i e high small = rw (e, le-ltb first 0xF000 high) (hexade
 
 -- ── the bytes of a line ──
 
-pub size-least : (first h : ℕ) → 2 ≤ size first h
+-- two or four
+pub by-size : (P : ℕ → Type 0) (first h : ℕ) → P 2 → P 4 → P (size first h)
 unfolding size
-size-least first h = go (decodeOf first h)
+by-size P first h two four = go (decodeOf first h)
   where
-    go : (d : Decoded) → 2 ≤ bytes first d
-    go Unknown = omega arith
-    go (Known i) = by-test (λ t. 2 ≤ pick t 2 4) (ltb first 0xF000) (λ _. omega arith) (λ _. omega arith)
+    go : (d : Decoded) → P (bytes first d)
+    go Unknown = two
+    go (Known i) = by-test (λ t. P (pick t 2 4)) (ltb first 0xF000) (λ _. two) (λ _. four)
 
-pub size-most : (first h : ℕ) → size first h ≤ 4
-unfolding size
-size-most first h = go (decodeOf first h)
-  where
-    go : (d : Decoded) → bytes first d ≤ 4
-    go Unknown = omega arith
-    go (Known i) = by-test (λ t. pick t 2 4 ≤ 4) (ltb first 0xF000) (λ _. omega arith) (λ _. omega arith)
+pub size-bounds : (first h : ℕ) → (2 ≤ size first h) × (size first h ≤ 4)
+size-bounds first h = by-size (λ n. (2 ≤ n) × (n ≤ 4)) first h (omega arith) (omega arith)

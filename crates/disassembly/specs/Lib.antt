@@ -2,3 +2,5 @@
 pub mod Disassembly
 pub mod Laws
 pub mod Listing
+pub mod ReadBack
+pub mod ListingLaws

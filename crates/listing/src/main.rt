@@ -1,53 +1,38 @@
 // The listing program: a source from standard input; its image to standard output, one instruction a line, or the report where it is refused.
-ghost use Prim.Native.Nat.{_+_, _<_};
-use libc::STDIN_FILENO;
+//
+// Proved: what is handed to `console::write` is the listing, whole, of the bytes that `console::read` counted (what `write` requires).
+// Trusted, and held to the stored output: `console`, and that `main` reads into 16,385 bytes and calls `answer` once, or names on
+// standard error what failed.
+ghost use mathlib.Core.Path.{_≡_};
+ghost use Prim.Native.Nat.{_≤_};
+ghost use lib.ListN.{length};
+ghost use Rattle.text_listing.specs.Listing.{«listing-of», «listing-limit»};
+use console::Input;
 
-// Two bytes, the lower first.
-fn joined(low: u8, high: u8) -> u16 {
-    (low as u16) + 256 * (high as u16)
-}
-
-// The halfword at an address, or 0 past the end.
-fn halfword(code: &[u8], at: usize) -> u16 {
-    if at >= code.len() {
-        return 0;
-    }
-    if at + 1 >= code.len() {
-        return 0;
-    }
-    joined(code[at], code[at + 1])
-}
-
-// Shows the instruction at an address, and hands back the address after it.
-fn shown(code: &[u8], at: usize) -> usize
-    requires { ⌜ at < 65536 ⌝ }
-    ensures { λ r. ⌜ at < r ⌝ }
+// Writes the listing of a source, and tells whether all of it was taken. The source is there for the contract alone.
+fn write(source: &[u8], text: &[u8]) -> bool
+    requires { ⌜ now text ≡ «listing-of» (now source) ⌝ }
 {
-    let first = halfword(code, at);
-    let second = halfword(code, at + 2);
-    text::show(disassembly::line(at as u32, first, second));
-    at + disassembly::size(first, second)
+    console::write(text)
 }
 
-// Shows an image, the first bytes of a buffer, from its first instruction to its last.
-fn list(code: &[u8], length: usize) {
-    if length <= 65536 {
-        let mut at = 0;
-        while at < length {
-            at = shown(code, at);
-        }
-    }
+// The text goes through a buffer with room for every listing.
+fn answer(source: &[u8], text: &mut [u8]) -> bool
+    requires { ⌜ «listing-limit» ≤ length (now text) ⌝ }
+{
+    let end = text_listing::listing(source, text);
+    write(source, &text[..end])
 }
 
 fn main() {
+    // One byte more than a source may have, so that a longer one is seen to be longer.
     let mut source = [0u8; 16385];
-    let read = io::read_full(STDIN_FILENO, &mut source);
-    let mut table = [0u32; 4096];
-    let mut code = [0u8; 49408];
-    let t = translate::translate(&source[..read], &mut table, &mut code);
-    if t.status != 0 {
-        text::show(text::summary(t.status, t.place, t.tokens, t.rows, t.data, t.depth, t.code));
-    } else {
-        list(&code, t.code as usize);
+    let Input::Bytes(n) = console::read(&mut source) else {
+        console::fail(b"listing: standard input could not be read");
+        return;
+    };
+    let mut text = [0u8; 1432832];
+    if !answer(&source[..n], &mut text) {
+        console::fail(b"listing: standard output could not be written");
     }
 }

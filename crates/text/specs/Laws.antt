@@ -11,7 +11,6 @@ use lib.Seq.{take-all, take-append-le, take-suc-set}
 use lib.Dec.{ltb}
 use Rattle.word.specs.Choice.{pick}
 use Rattle.word.specs.ChoiceLaws.{by-test}
-use Rattle.text.specs.Ascii.{ascii}
 use Rattle.text.specs.Text.{fitted, digit, digits, decimal, entry, summary}
 
 -- what was cut off before is cut off after
@@ -101,8 +100,3 @@ unfolding summary
 summary-fits s p t r d n c =
     take-all 128 (summary s p t r d n c)
     (simp length-append (omega (arith, length-digits 9 s, length-digits 9 p, length-digits 9 t, length-digits 9 r, length-digits 9 d, length-digits 9 n, length-digits 9 c)))
-
--- The report program: "For `skip;` the whole output is"
-pub summary-case : summary 6 4 0 0 0 0 0 ≡ ascii "status=6\nplace=4\ntokens=0\nrows=0\ndata=0\ndepth=0\ncode=0\n"
-unfolding summary digits
-summary-case = refl

@@ -1,5 +1,4 @@
-// Lines of text: a line by value, what can be added to its end, and writing one to standard output.
-use libc::STDOUT_FILENO;
+// Lines of text: a line by value, and what can be added to its end.
 ghost use mathlib.Core.Path.{_≡_};
 ghost use mathlib.Core.List.{[], _∷_, _++_};
 ghost use Prim.Native.Nat.{_<_};
@@ -111,13 +110,4 @@ pub fn summary(
     let e = entry(d, b"data=", words);
     let f = entry(e, b"depth=", depth);
     entry(f, b"code=", code)
-}
-
-// Writes a line to standard output.
-pub fn show(line: Line) {
-    let n = line.length;
-    let bytes = line.bytes;
-    if n <= 128 {
-        io::write_all(STDOUT_FILENO, &bytes[..n]);
-    }
 }

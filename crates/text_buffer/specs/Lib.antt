@@ -1,0 +1,3 @@
+-- Texts in a lent buffer.
+pub mod Buffer
+pub mod Laws

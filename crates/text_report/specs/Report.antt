@@ -1,0 +1,25 @@
+-- The report of a source, whole. Definitions; rests on the translation and the seven lines.
+use mathlib.Core.List.{List}
+use Prim.Native.Nat.{ℕ}
+use Rattle.text.specs.Text.{summary}
+use Rattle.translate.specs.declared.Translation.{Translation}
+use Rattle.translate.specs.Translate.{translation}
+
+-- Limits and refusals: "4 x tokens words" and "48 x tokens + 256 bytes" for 1,024 tokens, the most that a source may have: 13 and 14 never show
+abbrev pub table-words : ℕ
+table-words = 4096
+
+abbrev pub code-bytes : ℕ
+code-bytes = 49408
+
+-- The report program: "data= being D, depth= the deepest N, code= the image's bytes"
+abbrev pub answer-lines : Translation → List ℕ
+answer-lines t = summary (t .status) (t .place) (t .tokens) (t .rows) (t .«data») (t .depth) (t .code)
+
+-- "It reads a source ... and writes lines in this order"
+unfoldable pub report-of : List ℕ → List ℕ
+report-of source = answer-lines (translation source table-words code-bytes .answer)
+
+-- no report has more bytes
+abbrev pub report-limit : ℕ
+report-limit = 128
