@@ -2,8 +2,8 @@
 //! assembler, interpreter and code generator in Rust. The second front end and the source's run are `reference`.
 
 pub mod arm;
-pub mod device;
 pub mod image;
+pub mod proved;
 pub mod random;
 pub mod second;
 pub mod stack;

@@ -13,7 +13,7 @@ fn compile(source: &Path, program: &Path) -> bool {
     let root = repository();
     let mut command = Command::new("cc");
     command.args(["-std=c99", "-Wall", "-Wextra", "-Werror", "-pedantic", "-I"]).arg(root.join("include"));
-    command.arg(source).arg(root.join("target/staticlib/libdevice.a")).arg("-o").arg(program);
+    command.arg(source).arg(root.join("target/staticlib/libgutilamboy.a")).arg("-o").arg(program);
     let Ok(output) = command.output() else {
         print("no C compiler: the example in C is not run");
         return false;

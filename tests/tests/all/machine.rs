@@ -2,7 +2,7 @@
 
 use crate::{by_status, print};
 use tests::arm::{self, assemble, disassemble, pattern, Instr, Layout, Op, State, OPS};
-use tests::device;
+use tests::proved;
 use tests::random::Random;
 
 const EDGES: [u8; 22] =
@@ -27,9 +27,9 @@ fn encoded(i: Instr) -> [u32; 4] {
 fn encoding(i: Instr) -> u64 {
     let want = encoded(i);
     let op = OPS.iter().position(|&op| op == i.op).unwrap() as u8;
-    same("encode", i, device::encode(op, i.a, i.b, i.c, i.k), want);
+    same("encode", i, proved::encode(op, i.a, i.b, i.c, i.k), want);
     if want[0] == 0 {
-        same("decode after encode", i, device::decode(want[2] as u16, want[3] as u16), Some(i));
+        same("decode after encode", i, proved::decode(want[2] as u16, want[3] as u16), Some(i));
     }
     1
 }
@@ -82,7 +82,7 @@ fn encodings(random: &mut Random) -> u64 {
 /// One pair of halfwords: its decoding, and the way back where there is one.
 fn decoding(h: u16, k: u16) -> u64 {
     let want = disassemble(h, k);
-    same("decode", (h, k), device::decode(h, k), want);
+    same("decode", (h, k), proved::decode(h, k), want);
     if let Some(i) = want {
         let back = if i.op == Op::Bl { vec![h, k] } else { vec![h] };
         same("assemble after disassemble", i, assemble(i), Some(back));
@@ -117,7 +117,7 @@ fn word(random: &mut Random, code: usize, memory: usize) -> u32 {
         1 => small.wrapping_neg(),
         2 => 0x8000_0000u32.wrapping_add(small).wrapping_sub(6),
         3 => random.below(code as u64 + 8) as u32,
-        4 | 5 | 6 => 0x2000_0000 + 4 * random.below(memory.min(64) as u64 + 2) as u32,
+        4..=6 => 0x2000_0000 + 4 * random.below(memory.min(64) as u64 + 2) as u32,
         7 => 0x2000_0000u32.wrapping_add(random.below(4 * memory.min(64) as u64 + 24) as u32).wrapping_sub(8),
         8 => 1 << random.below(32),
         9 => 256 * random.below(300) as u32 + small,
@@ -196,7 +196,7 @@ fn one_step(seen: &mut Seen, s: &State, code: &[u8], memory: &[u32]) {
     let (mut mine, mut theirs) = (s.clone(), s.clone());
     let (mut my_memory, mut their_memory) = (memory.to_vec(), memory.to_vec());
     let want = arm::step(&mut mine, code, &mut my_memory);
-    let got = device::step(&mut theirs, code, &mut their_memory);
+    let got = proved::step(&mut theirs, code, &mut their_memory);
     same("step", (s, code.len()), (got, theirs, &their_memory), (want, mine.clone(), &my_memory));
     if want.0 != 0 {
         same("kept", s, (mine, my_memory), (s.clone(), memory.to_vec()));
@@ -216,7 +216,7 @@ fn one_run(seen: &mut Seen, s: &State, code: &[u8], memory: &[u32], limit: u64) 
     let want = arm::run(&mut mine, code, &mut my_memory, limit);
     // a run that ends before its limit ends alike under any larger one
     let asked = if want.0 != 0 && want.2 < limit { u64::MAX } else { limit };
-    let got = device::run(&mut theirs, code, &mut their_memory, asked);
+    let got = proved::run(&mut theirs, code, &mut their_memory, asked);
     same("run", (s, limit), (got, theirs, their_memory), (want, mine, my_memory));
     seen.runs[want.0 as usize] += 1;
     seen.run_instructions += want.2;
@@ -224,7 +224,7 @@ fn one_run(seen: &mut Seen, s: &State, code: &[u8], memory: &[u32], limit: u64) 
 
 fn one_start(seen: &mut Seen, code: &[u8], memory: &[u32], d: u32, n: u32) {
     let want = arm::start(code, memory, d, n);
-    same("start", (code.len(), memory.len(), d, n), device::start(code, memory, d, n), want.clone());
+    same("start", (code.len(), memory.len(), d, n), proved::start(code, memory, d, n), want.clone());
     seen.starts[want.0 as usize] += 1;
 }
 
