@@ -67,11 +67,21 @@ pub fn encode(op: u8, a: u8, b: u8, c: u8, k: i32) -> [u32; 4] {
     out
 }
 
-pub fn decode(first: u16, second: u16) -> Option<Instr> {
+/// The number of the instruction, or 34, and the fields a, b, c, k.
+pub fn decode_numbers(first: u16, second: u16) -> [u32; 5] {
     let mut out = [9; 5];
     unsafe { gutilamboy_decode(first, second, &mut out) };
-    let op = *OPS.get(out[0] as usize)?;
-    Some(Instr { op, a: out[1] as u8, b: out[2] as u8, c: out[3] as u8, k: out[4] as i32 })
+    out
+}
+
+pub fn decode(first: u16, second: u16) -> Option<Instr> {
+    let [number, a, b, c, k] = decode_numbers(first, second);
+    if number == 34 {
+        assert_eq!([a, b, c, k], [0; 4], "fields of no instruction");
+        return None;
+    }
+    let byte = |field: u32| u8::try_from(field).expect("a field of a byte");
+    Some(Instr { op: OPS[number as usize], a: byte(a), b: byte(b), c: byte(c), k: k as i32 })
 }
 
 fn words(s: &State) -> [u32; 12] {
@@ -110,5 +120,6 @@ pub fn run(s: &mut State, code: &[u8], memory: &mut [u32], limit: u64) -> (u32, 
         gutilamboy_run(code.as_ptr(), code.len(), memory.as_mut_ptr(), memory.len(), limit, &mut w, &mut out)
     };
     *s = state(w);
-    (out[0] as u32, out[1] as u32, out[2])
+    let word = |number: u64| u32::try_from(number).expect("a word");
+    (word(out[0]), word(out[1]), out[2])
 }

@@ -8,6 +8,9 @@ use tests::random::Random;
 const EDGES: [u8; 22] =
     [0, 1, 2, 6, 7, 8, 9, 15, 16, 30, 31, 32, 33, 63, 64, 126, 127, 128, 129, 200, 254, 255];
 
+/// "35, count 0 and both halfwords 0".
+const OUT_OF_RANGE: [u32; 4] = [35, 0, 0, 0];
+
 fn same<T: PartialEq + std::fmt::Debug>(what: &str, case: impl std::fmt::Debug, got: T, want: T) {
     if got != want {
         panic!("{what} {case:?}: got {got:?}, want {want:?}");
@@ -16,7 +19,7 @@ fn same<T: PartialEq + std::fmt::Debug>(what: &str, case: impl std::fmt::Debug, 
 
 fn encoded(i: Instr) -> [u32; 4] {
     match assemble(i).as_deref() {
-        None => [35, 0, 0, 0],
+        None => OUT_OF_RANGE,
         Some([h]) => [0, 1, *h as u32, 0],
         Some([h, k]) => [0, 2, *h as u32, *k as u32],
         Some(_) => unreachable!(),
@@ -79,15 +82,44 @@ fn encodings(random: &mut Random) -> u64 {
     count
 }
 
-/// One pair of halfwords: its decoding, and the way back where there is one.
+/// One pair of halfwords: its decoding, and the way back where there is one, by the instruction and by its numbers.
 fn decoding(h: u16, k: u16) -> u64 {
     let want = disassemble(h, k);
     same("decode", (h, k), proved::decode(h, k), want);
+    let [number, a, b, c, d] = proved::decode_numbers(h, k);
+    let back = proved::encode(number as u8, a as u8, b as u8, c as u8, d as i32);
     if let Some(i) = want {
-        let back = if i.op == Op::Bl { vec![h, k] } else { vec![h] };
-        same("assemble after disassemble", i, assemble(i), Some(back));
+        let halves = if i.op == Op::Bl { vec![h, k] } else { vec![h] };
+        same("assemble after disassemble", i, assemble(i), Some(halves));
+        let second = if i.op == Op::Bl { k as u32 } else { 0 };
+        same("encode after decode", i, back, [0, 1 + u32::from(i.op == Op::Bl), h as u32, second]);
+    } else {
+        same("encode after decode", (h, k), back, OUT_OF_RANGE);
     }
     1
+}
+
+/// Every number with many fields: the 34 instructions, unused fields not looked at, and none from 34 on. Instructions
+/// encoded, and refused ones of both kinds.
+fn numbered_encodings(random: &mut Random) -> [u64; 3] {
+    let mut seen = [0; 3];
+    for number in 0..=255u8 {
+        for (a, b) in EDGES.into_iter().flat_map(|a| EDGES.map(|b| (a, b))) {
+            for _ in 0..12 {
+                let c = random.of(&EDGES);
+                let k = random.word() as i32 >> random.below(32);
+                let got = proved::encode(number, a, b, c, k);
+                let Some(&op) = OPS.get(number as usize) else {
+                    same("encode number", (number, a, b, c, k), got, OUT_OF_RANGE);
+                    seen[2] += 1;
+                    continue;
+                };
+                same("encode number", (number, a, b, c, k), got, encoded(Instr { op, a, b, c, k }));
+                seen[usize::from(got == OUT_OF_RANGE)] += 1;
+            }
+        }
+    }
+    seen
 }
 
 fn decodings(random: &mut Random) -> u64 {
@@ -314,6 +346,15 @@ fn every_decoding() {
 #[test]
 fn every_encoding() {
     print(&format!("encode: {} instructions", encodings(&mut Random(2))));
+}
+
+#[test]
+fn every_number() {
+    let [encoded, out_of_range, no_instruction] = numbered_encodings(&mut Random(6));
+    assert!(encoded > 10_000 && out_of_range > 10_000 && no_instruction > 1_000_000);
+    print(&format!(
+        "encode by number: {encoded} encoded, {out_of_range} out of range, {no_instruction} of numbers 34 to 255"
+    ));
 }
 
 #[test]
