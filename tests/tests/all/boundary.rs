@@ -1,12 +1,8 @@
 //! The C header and the example in C: compiled, linked with the archive and run.
 
-use crate::print;
-use std::path::{Path, PathBuf};
+use crate::{print, repository};
+use std::path::Path;
 use std::process::Command;
-
-fn repository() -> PathBuf {
-    Path::new(env!("CARGO_MANIFEST_DIR")).parent().unwrap().to_path_buf()
-}
 
 /// Compiles a program in C with the header and the archive; false where there is no C compiler.
 fn compile(source: &Path, program: &Path) -> bool {

@@ -1,14 +1,27 @@
 //! The proved calls against second implementations. Every test says how much it went through.
 
 use std::io::Write;
+use std::path::{Path, PathBuf};
 
 mod boundary;
 mod cases;
 mod documents;
 mod front;
 mod machine;
+mod programs;
 mod runs;
 mod stack;
+
+fn repository() -> PathBuf {
+    Path::new(env!("CARGO_MANIFEST_DIR")).parent().expect("the repository").to_path_buf()
+}
+
+/// A folder for a test's own files.
+fn scratch(name: &str) -> PathBuf {
+    let folder = Path::new(env!("CARGO_TARGET_TMPDIR")).join(name);
+    std::fs::create_dir_all(&folder).expect("a folder");
+    folder
+}
 
 /// Prints a line past the test runner's capture, so that a plain `cargo test`
 /// shows how much the tests went through.
