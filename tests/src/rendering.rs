@@ -4,6 +4,9 @@
 use crate::arm::{disassemble, pattern, Instr, Layout, Op};
 use crate::{second, Translation, CODE_BYTES, TABLE_WORDS};
 
+/// What a program writes for a source.
+pub type Rendering = fn(&[u8]) -> Vec<u8>;
+
 /// What the report program writes for a source.
 pub fn report(source: &[u8]) -> Vec<u8> {
     let (answer, _) = translated(source);

@@ -1,8 +1,19 @@
 //! The C header and the example in C: compiled, linked with the archive and run.
 
 use crate::{print, repository};
+use std::ffi::OsStr;
 use std::path::Path;
 use std::process::Command;
+
+/// Runs a compiler; false, and a line that says so, where there is none.
+pub fn compiler(name: &str, words: &[impl AsRef<OsStr>]) -> bool {
+    let Ok(output) = Command::new(name).args(words).output() else {
+        print(&format!("no {name}: what needs it is left out"));
+        return false;
+    };
+    assert!(output.status.success(), "{}", String::from_utf8_lossy(&output.stderr));
+    true
+}
 
 /// Compiles a program in C with the header and the archive; false where there is no C compiler.
 fn compile(source: &Path, program: &Path) -> bool {

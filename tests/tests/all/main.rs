@@ -6,6 +6,7 @@ use std::path::{Path, PathBuf};
 mod boundary;
 mod cases;
 mod documents;
+mod failures;
 mod front;
 mod machine;
 mod programs;

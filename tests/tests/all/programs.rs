@@ -10,7 +10,8 @@ use std::os::fd::OwnedFd;
 use std::os::unix::net::UnixDatagram;
 use std::path::PathBuf;
 use std::process::{Child, Command, Output, Stdio};
-use tests::{rendering, Translation};
+use tests::rendering::{self, Rendering};
+use tests::Translation;
 
 /// A built program.
 struct Built {
@@ -135,7 +136,7 @@ struct Seen {
 }
 
 /// A program against a rendering, on each of the sources.
-fn compare(program: impl Fn(&[u8]) -> Vec<u8>, render: fn(&[u8]) -> Vec<u8>, sources: &[Vec<u8>]) -> Seen {
+fn compare(program: impl Fn(&[u8]) -> Vec<u8>, render: Rendering, sources: &[Vec<u8>]) -> Seen {
     let mut seen = Seen::default();
     for source in sources {
         let (got, want) = (program(source), render(source));
