@@ -59,9 +59,7 @@ pub fn line(address: u32, first: u16, second: u16) -> (String, usize) {
         Op::Bl => (format!("{first:04X} {second:04X}"), 4),
         _ => (format!("{first:04X}"), 2),
     };
-    // the operations are named as in document 01, but for the case of letters
-    let mnemonic = format!("{:?}", i.op).to_uppercase();
-    (format!("{address:04X} {halves} {mnemonic} {}\n", operands(address, i)), size)
+    (format!("{address:04X} {halves} {} {}\n", i.op.mnemonic(), operands(address, i)), size)
 }
 
 /// The register that takes the result or is stored first, as in "ADDR r0,r1,r2" and "SHRI r0,r0,31"; offsets in bytes,

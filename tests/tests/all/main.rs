@@ -8,6 +8,7 @@ mod cases;
 mod documents;
 mod failures;
 mod front;
+mod header;
 mod machine;
 mod programs;
 mod runs;
