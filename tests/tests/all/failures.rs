@@ -47,7 +47,6 @@ impl Called {
     fn command(&self) -> Command {
         let mut command = Command::new(&self.words[0]);
         command.args(&self.words[1..]).stdin(File::open(&self.source).expect("the example"));
-        command.stdout(Stdio::piped()).stderr(Stdio::piped());
         command
     }
 
@@ -56,7 +55,6 @@ impl Called {
         let mut command = Command::new("sh");
         command.arg("-c").arg(format!(r#"{before} exec "$@" {redirections}"#)).arg("sh").args(&self.words);
         command.stdin(File::open(&self.source).expect("the example"));
-        command.stdout(Stdio::piped()).stderr(Stdio::piped());
         command
     }
 
@@ -110,7 +108,7 @@ impl Called {
         self.stops("a full device", self.command().stdout(full), nothing);
         self.stops("closed output", &mut self.by_shell("", ">&-"), nothing);
         // no file may grow past so many blocks: a disk that is full, or gets full
-        let file = scratch("full").join(format!("{}-{}", self.name, self.words.len()));
+        let file = scratch("disk").join("file");
         for blocks in 0..=self.whole.len() / 1_024 {
             let _ = remove_file(&file);
             let mut command = self.by_shell(&format!("trap '' XFSZ; ulimit -f {blocks};"), r#">"$FILE""#);
@@ -137,7 +135,8 @@ impl Called {
     }
 }
 
-/// An input that fails behind its beginning. That our end was closed with something unread is the reader's error.
+/// An input that fails behind its beginning: the other end is closed with something unread, which the reader is told as
+/// an error.
 fn broken_off(beginning: &[u8]) -> Stdio {
     let (mut ours, mut theirs) = UnixStream::pair().expect("two ends");
     theirs.write_all(b"unread").expect("room");
@@ -148,7 +147,7 @@ fn broken_off(beginning: &[u8]) -> Stdio {
 
 /// The library that makes writes fail, where there is a C compiler.
 fn faulty() -> Option<PathBuf> {
-    let library = scratch("failures").join("faulty.so");
+    let library = scratch("c").join("faulty.so");
     let source = repository().join("tests/c/faulty.c");
     let options = ["-O1", "-shared", "-fPIC", "-o"].map(PathBuf::from);
     compiler("cc", &[&options[..], &[library.clone(), source]].concat()).then_some(library)
@@ -246,7 +245,7 @@ fn wrappers_pass_on() {
         // a reader that is gone ends the program by SIGPIPE: 128 + 13
         let called = Called::new(vec![wrapper.clone()], name, 128 + 13);
         let mut command = called.command();
-        let mut child = command.stdin(Stdio::piped()).spawn().expect("it starts");
+        let mut child = command.stdin(Stdio::piped()).stdout(Stdio::piped()).spawn().expect("it starts");
         drop(child.stdout.take());
         drop(child.stdin.take());
         assert_eq!(child.wait().expect("it ends").code(), Some(called.failed));

@@ -38,7 +38,8 @@ struct Define<'h> {
 
 /// All that the header defines, but for what tells whether it was read before.
 fn defines(header: &str) -> Vec<Define<'_>> {
-    assert!(!header.contains("enum") && !header.contains("\\\n"), "constants that are not read here");
+    let elsewhere = ["enum", "const int", "\\\n", "# define", " #define", "\t#define"];
+    assert!(!elsewhere.iter().any(|form| header.contains(form)), "constants that are not read here");
     let lines = header.lines().filter_map(|line| line.strip_prefix("#define "));
     let all = lines.map(|line| {
         let comment = line.split_once("/*").map_or("", |(_, comment)| comment.trim_end_matches("*/").trim());
@@ -83,6 +84,12 @@ fn field(line: &str) -> &str {
     declared.split(['[', ';']).next().expect("a name")
 }
 
+/// The functions, by name.
+fn functions(header: &str) -> Vec<&str> {
+    let declared = header.lines().filter(|line| line.starts_with("void ") || line.starts_with("uint"));
+    declared.filter_map(|line| line.split([' ', '(']).nth(1)).collect()
+}
+
 /// A program that prints all these numbers, in both languages.
 fn program(header: &str) -> String {
     let mut text = String::from("#include <stdio.h>\n#include <stddef.h>\n#include \"gutilamboy.h\"\n");
@@ -110,7 +117,7 @@ fn program(header: &str) -> String {
 /// The numbers of a header in a folder, by C and by C++; none where there is no such compiler.
 fn numbers_of(folder: &Path) -> Vec<Numbers> {
     let header = std::fs::read_to_string(folder.join("gutilamboy.h")).expect("the header");
-    let source = scratch("header").join(folder.file_name().expect("a folder")).with_extension("c");
+    let source = scratch("c").join("numbers.c");
     std::fs::write(&source, program(&header)).expect("a file");
     let outputs = LANGUAGES.into_iter().filter_map(|language| output_of(language, folder, &source, &[]));
     let number = |line: &str| {
@@ -244,6 +251,9 @@ const STRUCTURES: [Structure; 6] = [
     ("decoded", 4, &[("op", 1), ("a", 1), ("b", 1), ("c", 1), ("k", 1)]),
 ];
 
+/// The functions that C can call: those of `boundary`'s program.
+const FUNCTIONS: [&str; 6] = ["translate", "start", "step", "run", "encode", "decode"];
+
 /// All numbers that the header has to have, and no others.
 fn wanted() -> Numbers {
     let mut want = Numbers::new();
@@ -300,9 +310,13 @@ fn named_fields(header: &str) {
     }
 }
 
+/// The header in a folder has the functions, the fields and the numbers that it has to have. How many numbers; none
+/// where there is no C compiler.
 fn check(folder: &Path) -> Option<usize> {
     let want = wanted();
-    named_fields(&std::fs::read_to_string(folder.join("gutilamboy.h")).expect("the header"));
+    let header = std::fs::read_to_string(folder.join("gutilamboy.h")).expect("the header");
+    assert_eq!(functions(&header), FUNCTIONS.map(|name| format!("gutilamboy_{name}")));
+    named_fields(&header);
     let all = numbers_of(folder);
     for got in &all {
         let differ = |(what, number): &(&String, &u64)| want.get(*what) != Some(number);
@@ -330,9 +344,9 @@ fn wrong_headers_are_noticed() {
         std::fs::write(folder.join("gutilamboy.h"), header.replacen(old, new, 1)).expect("a header");
         catch_unwind(|| check(&folder)).map(|checked| checked.is_some())
     };
-    let Ok(true) = passes("longest source", "longest") else {
+    if !passes("longest source", "longest").expect("another comment is not wrong") {
         return print("no C compiler: wrong headers are not tried");
-    };
+    }
     for (old, new) in [
         ("48 * (tokens) + 256", "48 * (tokens) + 128"),
         ("4 * (tokens)", "4 * tokens"),
@@ -350,6 +364,7 @@ fn wrong_headers_are_noticed() {
         ("uint64_t count;", "uint32_t count;"),
         ("uint32_t r[8];", "uint32_t r[7];"),
         ("uint32_t rs;", "uint32_t rs; uint32_t more;"),
+        ("void gutilamboy_step(", "void gutilamboy_more(void);\nvoid gutilamboy_step("),
     ] {
         let passed = passes(old, new);
         assert!(passed.is_err(), "{new:?} for {old:?}");

@@ -24,7 +24,7 @@ impl Built {
     fn new(name: &str) -> Built {
         let program = repository().join("target/bin").join(name);
         assert!(program.exists(), "target/bin/{name} is not built: rt check {name}");
-        Built { program, input: scratch("inputs").join(name) }
+        Built { program, input: scratch("input").join("source.x") }
     }
 
     fn start(&self, input: Stdio) -> Child {
