@@ -3,6 +3,7 @@
 
 use crate::{by_status, print, repository, scratch};
 use reference::generate::{edges, raw_bytes, source, valid_source, Random};
+use std::cell::Cell;
 use std::collections::BTreeSet;
 use std::fs::File;
 use std::io::Write;
@@ -18,13 +19,15 @@ struct Built {
     program: PathBuf,
     /// The file that it reads its source from.
     input: PathBuf,
+    /// How many sources it was given.
+    sources: Cell<usize>,
 }
 
 impl Built {
     fn new(name: &str) -> Built {
         let program = repository().join("target/bin").join(name);
         assert!(program.exists(), "target/bin/{name} is not built: rt check {name}");
-        Built { program, input: scratch("input").join("source.x") }
+        Built { program, input: scratch("input").join("source.x"), sources: Cell::new(0) }
     }
 
     fn start(&self, input: Stdio) -> Child {
@@ -60,18 +63,19 @@ impl Built {
         fed(child, feed)
     }
 
-    /// What it writes for a source, the same from a file and in pieces.
+    /// What it writes for a source: the same from a file and, by turns, through a pipe or a socket.
     fn writes(&self, source: &[u8]) -> Vec<u8> {
         let piece = 1 + source.len() % 61;
-        let answers =
-            [self.fed_by_file(source), self.fed_by_pipe(source, piece), self.fed_in_pieces(source, piece)];
+        let count = self.sources.replace(self.sources.get() + 1);
+        let in_pieces = if count % 2 == 1 { Built::fed_in_pieces } else { Built::fed_by_pipe };
+        let answers = [self.fed_by_file(source), in_pieces(self, source, piece)];
         for answer in &answers {
             assert!(answer.status.success(), "{} of {}", answer.status, shown(source));
             assert!(answer.stderr.is_empty(), "standard error of {}: {:?}", shown(source), answer.stderr);
         }
-        let [file, pipe, pieces] = answers.map(|answer| answer.stdout);
-        assert!(file == pipe && file == pieces, "{} is otherwise from a file than in pieces", shown(source));
-        file
+        let [whole, pieces] = answers.map(|answer| answer.stdout);
+        assert!(whole == pieces, "{} is otherwise from a file than in pieces", shown(source));
+        whole
     }
 }
 
