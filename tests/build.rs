@@ -1,7 +1,9 @@
-// The archive of the proved functions: `rt staticlib device` writes it.
+// The archives of the proved functions: `rt staticlib gutilamboy` and `rt staticlib gutilamboy_codec` write them.
 fn main() {
-    let archive = format!("{}/../target/staticlib", env!("CARGO_MANIFEST_DIR"));
-    println!("cargo:rustc-link-search=native={archive}");
-    println!("cargo:rustc-link-lib=static=device");
-    println!("cargo:rerun-if-changed={archive}/libdevice.a");
+    let folder = format!("{}/../target/staticlib", env!("CARGO_MANIFEST_DIR"));
+    println!("cargo:rustc-link-search=native={folder}");
+    for archive in ["gutilamboy", "gutilamboy_codec"] {
+        println!("cargo:rustc-link-lib=static={archive}");
+        println!("cargo:rerun-if-changed={folder}/lib{archive}.a");
+    }
 }

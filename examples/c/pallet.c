@@ -22,6 +22,25 @@ static uint32_t table[GUTILAMBOY_TABLE_WORDS(TOKENS)];
 static uint8_t code[GUTILAMBOY_CODE_BYTES(TOKENS)];
 static uint32_t memory[MEMORY_WORDS];
 
+/* How a run ended. */
+static const char *end(const struct gutilamboy_ran *ran)
+{
+    if (ran->status == GUTILAMBOY_DONE)
+        return "limit reached";
+    if (ran->status != GUTILAMBOY_SVC)
+        return "fault or refusal";
+    switch (ran->number) {
+    case GUTILAMBOY_FINISH:
+        return "finish";
+    case GUTILAMBOY_STOP:
+        return "stop";
+    case GUTILAMBOY_BAD_SUBSCRIPT:
+        return "bad subscript";
+    default:
+        return "another SVC";
+    }
+}
+
 static int run(const struct gutilamboy_translation *t, const char *what, const uint32_t *words, size_t length)
 {
     struct gutilamboy_state state;
@@ -33,15 +52,16 @@ static int run(const struct gutilamboy_translation *t, const char *what, const u
     memset(memory, 0, sizeof memory);
     memcpy(memory, words, length * sizeof *words);
     status = gutilamboy_start(code, t->code, memory, MEMORY_WORDS, t->data, t->depth, &state);
-    if (status != 0) {
-        printf("%s: start refused, %u\n", what, (unsigned)status);
+    if (status != GUTILAMBOY_DONE) {
+        printf("%s: start refused, %u%s\n", what, (unsigned)status,
+               status == GUTILAMBOY_SHORT_MEMORY ? ": more words are needed" : "");
         return 1;
     }
     /* one instruction, then the rest, but no more than 10,000 */
     gutilamboy_step(code, t->code, memory, MEMORY_WORDS, &state, &stepped);
     gutilamboy_run(code, t->code, memory, MEMORY_WORDS, 10000, &state, &ran);
-    printf("%s: step %u, then status %u number %u, words", what, (unsigned)stepped.status, (unsigned)ran.status,
-           (unsigned)ran.number);
+    printf("%s: step %u, then %s at pc %u after %lu more, words", what, (unsigned)stepped.status, end(&ran),
+           (unsigned)state.pc, (unsigned long)ran.count);
     for (i = 0; i < t->data; i++)
         printf(" %u", (unsigned)memory[i]);
     printf("\n");
@@ -56,10 +76,10 @@ int main(void)
     struct gutilamboy_translation t;
 
     gutilamboy_translate((const uint8_t *)source, strlen(source), table, sizeof table / sizeof *table, code, sizeof code,
-                     &t);
+                         &t);
     printf("status %u place %u tokens %u rows %u data %u depth %u\n", (unsigned)t.status, (unsigned)t.place,
            (unsigned)t.tokens, (unsigned)t.rows, (unsigned)t.data, (unsigned)t.depth);
-    if (t.status != 0)
+    if (t.status != GUTILAMBOY_ACCEPTED)
         return 1;
     return run(&t, "empty pallet", empty, 6) + run(&t, "three boxes", three, 6) + run(&t, "five boxes", five, 6);
 }

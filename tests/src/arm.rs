@@ -42,6 +42,13 @@ pub enum Op {
 }
 use Op::*;
 
+impl Op {
+    /// Document 01's name, of which the names here differ in the case of letters.
+    pub fn mnemonic(self) -> String {
+        format!("{self:?}").to_uppercase()
+    }
+}
+
 /// In the order of their numbers at the boundary.
 pub const OPS: [Op; 34] = [
     Shli, Shri, Ashri, Addr, Subr, Movi, Addi, Subi, Ldrpci, Strspi, Ldrspi, Addpci, Addspi, Andr, Xorr, Shl,
@@ -204,11 +211,14 @@ pub struct State {
 }
 
 pub const DATA: u32 = 0x2000_0000;
+/// "Code is bytes at addresses 0 up, at most 65,536; data is lent words at 0x20000000 up, at most 16,384."
+pub const CODE_LIMIT: usize = 65_536;
+pub const MEMORY_LIMIT: usize = 16_384;
 
 pub fn refusal(code: &[u8], memory: &[u32]) -> u32 {
-    if code.len() > 65536 {
+    if code.len() > CODE_LIMIT {
         31
-    } else if memory.len() > 16384 {
+    } else if memory.len() > MEMORY_LIMIT {
         32
     } else {
         0

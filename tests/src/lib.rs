@@ -2,9 +2,10 @@
 //! assembler, interpreter and code generator in Rust. The second front end and the source's run are `reference`.
 
 pub mod arm;
-pub mod device;
 pub mod image;
+pub mod proved;
 pub mod random;
+pub mod rendering;
 pub mod second;
 pub mod stack;
 

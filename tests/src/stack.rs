@@ -1,7 +1,7 @@
 //! The stack that one translation takes, by filling the stack below with a pattern and looking how far it was
 //! written.
 
-use crate::{device, CODE_BYTES, TABLE_WORDS};
+use crate::{proved, CODE_BYTES, TABLE_WORDS};
 use std::hint::black_box;
 
 const ROOM: usize = 1 << 20;
@@ -33,7 +33,7 @@ pub fn taken(sources: &[Vec<u8>]) -> Vec<usize> {
             let here = 0u64;
             let top = black_box(&here) as *const u64 as usize;
             paint(top);
-            black_box(device::translate(source, &mut table, &mut code));
+            black_box(proved::translate(source, &mut table, &mut code));
             deepest(top)
         };
         sources.iter().map(one).collect()

@@ -8,7 +8,7 @@
 
 use reference::generate::{program, render, Random};
 use std::time::Instant;
-use tests::{arm, device, needed_words, stack, Translation, CODE_BYTES, TABLE_WORDS};
+use tests::{arm, needed_words, proved, stack, Translation, CODE_BYTES, TABLE_WORDS};
 
 fn main() {
     let arguments: Vec<String> = std::env::args().skip(1).collect();
@@ -40,7 +40,7 @@ fn read(file: &str) -> Vec<u8> {
 
 fn translate(source: &[u8]) -> (Translation, Vec<u8>) {
     let (mut table, mut code) = (vec![0; TABLE_WORDS], vec![0; CODE_BYTES]);
-    let got = device::translate(source, &mut table, &mut code);
+    let got = proved::translate(source, &mut table, &mut code);
     code.truncate(got.code as usize);
     (got, code)
 }
@@ -81,7 +81,10 @@ fn source(tokens: usize, kind: &str) -> String {
     text.into_iter().map(char::from).map(|c| if c.is_ascii() { c } else { '?' }).collect()
 }
 
-/// Instructions a second of `device_run` and of the second interpreter, on the same images, the best of five.
+/// A run of one of the machines: status, number and count.
+type Run<'a> = &'a dyn Fn(&mut arm::State, &mut [u32]) -> (u32, u32, u64);
+
+/// Instructions a second of `gutilamboy_run` and of the second interpreter, on the same images, the best of five.
 fn speed() {
     const LIMIT: u64 = 2_000_000;
     let programs = [
@@ -95,17 +98,17 @@ fn speed() {
         let (got, image) = translate(source.as_bytes());
         assert_eq!(got.status, 0, "{source}");
         let memory = vec![1; needed_words(got.data, got.depth)];
-        let best = |run: &dyn Fn(&mut arm::State, &mut [u32]) -> (u32, u32, u64)| {
+        let best = |run: Run| {
             let times = (0..5).map(|_| {
                 let (mut memory, (_, mut state)) =
-                    (memory.clone(), device::start(&image, &memory, got.data, got.depth));
+                    (memory.clone(), proved::start(&image, &memory, got.data, got.depth));
                 let begun = Instant::now();
                 assert_eq!(run(&mut state, &mut memory), (0, 0, LIMIT));
                 begun.elapsed().as_secs_f64()
             });
             LIMIT as f64 / 1e6 / times.fold(f64::MAX, f64::min)
         };
-        let proved = best(&|state, memory| device::run(state, &image, memory, LIMIT));
+        let proved = best(&|state, memory| proved::run(state, &image, memory, LIMIT));
         let second = best(&|state, memory| arm::run(state, &image, memory, LIMIT));
         println!("| {name} | {proved:.1} | {second:.1} | {:.2} |", proved / second);
     }

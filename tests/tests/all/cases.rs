@@ -5,12 +5,12 @@ use crate::runs::{run_anyhow, run_source, Seen};
 use reference::front::accept;
 use reference::generate::{starting_words, Random};
 use tests::arm::{disassemble, Instr, Op};
-use tests::{device, needed_words, Translation, CODE_BYTES, TABLE_WORDS};
+use tests::{needed_words, proved, Translation, CODE_BYTES, TABLE_WORDS};
 
 /// A translation with room for any source: the answer, the table's words and the image.
 fn translate(source: &str) -> (Translation, Vec<u32>, Vec<u8>) {
     let (mut table, mut code) = (vec![9; TABLE_WORDS], vec![9; CODE_BYTES]);
-    let got = device::translate(source.as_bytes(), &mut table, &mut code);
+    let got = proved::translate(source.as_bytes(), &mut table, &mut code);
     table.truncate(4 * got.rows as usize);
     code.truncate(got.code as usize);
     (got, table, code)
@@ -28,7 +28,7 @@ fn run(source: &str, starting: &[u32]) -> (Option<u32>, Vec<u32>) {
     words[..starting.len()].copy_from_slice(starting);
     let mut random = Random::new(starting.len() as u64);
     let (end, mut memory) =
-        run_source(device::translate, source.as_bytes(), &words, &mut random, 200_000, &mut Seen::default());
+        run_source(proved::translate, source.as_bytes(), &words, &mut random, 200_000, &mut Seen::default());
     memory.truncate(accepted.program.data as usize);
     (end, memory)
 }
@@ -72,7 +72,7 @@ fn marked_sources() {
 fn marked_instructions() {
     let encoded = |op: Op, a, b, c, k| {
         let number = tests::arm::OPS.iter().position(|&other| other == op).unwrap();
-        let [status, count, first, second] = device::encode(number as u8, a, b, c, k);
+        let [status, count, first, second] = proved::encode(number as u8, a, b, c, k);
         assert_eq!(status, 0);
         [first, second][..count as usize].to_vec()
     };
@@ -137,7 +137,7 @@ fn operations() {
         let source = format!("var x; var y; var z; z := x {operator} y");
         for _ in 0..300 {
             let words = starting_words(&mut random, 32);
-            run_source(device::translate, source.as_bytes(), &words, &mut random, 1_000, &mut seen);
+            run_source(proved::translate, source.as_bytes(), &words, &mut random, 1_000, &mut seen);
         }
     }
     seen.print("operations");
@@ -210,7 +210,7 @@ fn far_branches() {
         assert!(longest > 1_024, "{longest} halfwords is a short branch");
         farthest = farthest.max(longest);
         for _ in 0..40 {
-            run_anyhow(device::translate, source.as_bytes(), &mut random, 60_000, &mut seen);
+            run_anyhow(proved::translate, source.as_bytes(), &mut random, 60_000, &mut seen);
         }
     }
     seen.print("far branches");
@@ -246,7 +246,7 @@ fn deepest_expressions() {
         assert_eq!(got.status, 0, "{source}");
         assert_eq!(got.depth, 32, "{expression}");
         for _ in 0..20 {
-            run_anyhow(device::translate, source.as_bytes(), &mut random, 20_000, &mut seen);
+            run_anyhow(proved::translate, source.as_bytes(), &mut random, 20_000, &mut seen);
         }
     }
     seen.print("deepest expressions");
@@ -272,7 +272,7 @@ fn largest_arrays() {
         "array a[4096]; array b[4096]; {a[4095] := b[0]; b[4095] := a[0]; while b[4095] do {b[b[4095] and 4095] := a[4095]; b[4095] := b[4095] >> 1}}",
     ] {
         for _ in 0..4 {
-            run_anyhow(device::translate, source.as_bytes(), &mut random, 400_000, &mut seen);
+            run_anyhow(proved::translate, source.as_bytes(), &mut random, 400_000, &mut seen);
         }
     }
     seen.print("largest arrays");

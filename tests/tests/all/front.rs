@@ -3,7 +3,7 @@
 use crate::{by_status, print};
 use reference::front::{translate_front, Outcome};
 use reference::generate::{edges, source, token_strings, valid_source, Random};
-use tests::{device, second, Translation, Translator, CODE_BYTES, TABLE_WORDS};
+use tests::{proved, second, Translation, Translator, CODE_BYTES, TABLE_WORDS};
 
 /// Cells on either side of a lent buffer, which a call has to leave alone.
 const MARGIN: usize = 8;
@@ -139,10 +139,10 @@ fn short_strings(lent: &mut Lent, translator: Translator, length: usize) {
 #[test]
 fn translation_of_any_source() {
     let mut lent = Lent::new();
-    at_edges(&mut lent, device::translate);
-    short_strings(&mut lent, device::translate, 4);
-    generated(&mut lent, device::translate, 11, 120_000, source);
-    generated(&mut lent, device::translate, 12, 20_000, valid_source);
+    at_edges(&mut lent, proved::translate);
+    short_strings(&mut lent, proved::translate, 4);
+    generated(&mut lent, proved::translate, 11, 120_000, source);
+    generated(&mut lent, proved::translate, 12, 20_000, valid_source);
     assert!(lent.count() >= 200_000);
     assert!(lent.statuses.iter().all(|&count| count > 0), "every status is seen");
     print(&format!("translate: {} sources (by status {})", lent.count(), by_status(&lent.statuses)));

@@ -2,11 +2,14 @@
 
 use crate::{by_status, print};
 use tests::arm::{self, assemble, disassemble, pattern, Instr, Layout, Op, State, OPS};
-use tests::device;
+use tests::proved;
 use tests::random::Random;
 
 const EDGES: [u8; 22] =
     [0, 1, 2, 6, 7, 8, 9, 15, 16, 30, 31, 32, 33, 63, 64, 126, 127, 128, 129, 200, 254, 255];
+
+/// "35, count 0 and both halfwords 0".
+const OUT_OF_RANGE: [u32; 4] = [35, 0, 0, 0];
 
 fn same<T: PartialEq + std::fmt::Debug>(what: &str, case: impl std::fmt::Debug, got: T, want: T) {
     if got != want {
@@ -16,7 +19,7 @@ fn same<T: PartialEq + std::fmt::Debug>(what: &str, case: impl std::fmt::Debug, 
 
 fn encoded(i: Instr) -> [u32; 4] {
     match assemble(i).as_deref() {
-        None => [35, 0, 0, 0],
+        None => OUT_OF_RANGE,
         Some([h]) => [0, 1, *h as u32, 0],
         Some([h, k]) => [0, 2, *h as u32, *k as u32],
         Some(_) => unreachable!(),
@@ -27,9 +30,9 @@ fn encoded(i: Instr) -> [u32; 4] {
 fn encoding(i: Instr) -> u64 {
     let want = encoded(i);
     let op = OPS.iter().position(|&op| op == i.op).unwrap() as u8;
-    same("encode", i, device::encode(op, i.a, i.b, i.c, i.k), want);
+    same("encode", i, proved::encode(op, i.a, i.b, i.c, i.k), want);
     if want[0] == 0 {
-        same("decode after encode", i, device::decode(want[2] as u16, want[3] as u16), Some(i));
+        same("decode after encode", i, proved::decode(want[2] as u16, want[3] as u16), Some(i));
     }
     1
 }
@@ -79,15 +82,44 @@ fn encodings(random: &mut Random) -> u64 {
     count
 }
 
-/// One pair of halfwords: its decoding, and the way back where there is one.
+/// One pair of halfwords: its decoding, and the way back where there is one, by the instruction and by its numbers.
 fn decoding(h: u16, k: u16) -> u64 {
     let want = disassemble(h, k);
-    same("decode", (h, k), device::decode(h, k), want);
+    same("decode", (h, k), proved::decode(h, k), want);
+    let [number, a, b, c, d] = proved::decode_numbers(h, k);
+    let back = proved::encode(number as u8, a as u8, b as u8, c as u8, d as i32);
     if let Some(i) = want {
-        let back = if i.op == Op::Bl { vec![h, k] } else { vec![h] };
-        same("assemble after disassemble", i, assemble(i), Some(back));
+        let halves = if i.op == Op::Bl { vec![h, k] } else { vec![h] };
+        same("assemble after disassemble", i, assemble(i), Some(halves));
+        let second = if i.op == Op::Bl { k as u32 } else { 0 };
+        same("encode after decode", i, back, [0, 1 + u32::from(i.op == Op::Bl), h as u32, second]);
+    } else {
+        same("encode after decode", (h, k), back, OUT_OF_RANGE);
     }
     1
+}
+
+/// Every number with many fields: the 34 instructions, unused fields not looked at, and none from 34 on. Instructions
+/// encoded, and refused ones of both kinds.
+fn numbered_encodings(random: &mut Random) -> [u64; 3] {
+    let mut seen = [0; 3];
+    for number in 0..=255u8 {
+        for (a, b) in EDGES.into_iter().flat_map(|a| EDGES.map(|b| (a, b))) {
+            for _ in 0..12 {
+                let c = random.of(&EDGES);
+                let k = random.word() as i32 >> random.below(32);
+                let got = proved::encode(number, a, b, c, k);
+                let Some(&op) = OPS.get(number as usize) else {
+                    same("encode number", (number, a, b, c, k), got, OUT_OF_RANGE);
+                    seen[2] += 1;
+                    continue;
+                };
+                same("encode number", (number, a, b, c, k), got, encoded(Instr { op, a, b, c, k }));
+                seen[usize::from(got == OUT_OF_RANGE)] += 1;
+            }
+        }
+    }
+    seen
 }
 
 fn decodings(random: &mut Random) -> u64 {
@@ -117,7 +149,7 @@ fn word(random: &mut Random, code: usize, memory: usize) -> u32 {
         1 => small.wrapping_neg(),
         2 => 0x8000_0000u32.wrapping_add(small).wrapping_sub(6),
         3 => random.below(code as u64 + 8) as u32,
-        4 | 5 | 6 => 0x2000_0000 + 4 * random.below(memory.min(64) as u64 + 2) as u32,
+        4..=6 => 0x2000_0000 + 4 * random.below(memory.min(64) as u64 + 2) as u32,
         7 => 0x2000_0000u32.wrapping_add(random.below(4 * memory.min(64) as u64 + 24) as u32).wrapping_sub(8),
         8 => 1 << random.below(32),
         9 => 256 * random.below(300) as u32 + small,
@@ -196,7 +228,7 @@ fn one_step(seen: &mut Seen, s: &State, code: &[u8], memory: &[u32]) {
     let (mut mine, mut theirs) = (s.clone(), s.clone());
     let (mut my_memory, mut their_memory) = (memory.to_vec(), memory.to_vec());
     let want = arm::step(&mut mine, code, &mut my_memory);
-    let got = device::step(&mut theirs, code, &mut their_memory);
+    let got = proved::step(&mut theirs, code, &mut their_memory);
     same("step", (s, code.len()), (got, theirs, &their_memory), (want, mine.clone(), &my_memory));
     if want.0 != 0 {
         same("kept", s, (mine, my_memory), (s.clone(), memory.to_vec()));
@@ -216,7 +248,7 @@ fn one_run(seen: &mut Seen, s: &State, code: &[u8], memory: &[u32], limit: u64) 
     let want = arm::run(&mut mine, code, &mut my_memory, limit);
     // a run that ends before its limit ends alike under any larger one
     let asked = if want.0 != 0 && want.2 < limit { u64::MAX } else { limit };
-    let got = device::run(&mut theirs, code, &mut their_memory, asked);
+    let got = proved::run(&mut theirs, code, &mut their_memory, asked);
     same("run", (s, limit), (got, theirs, their_memory), (want, mine, my_memory));
     seen.runs[want.0 as usize] += 1;
     seen.run_instructions += want.2;
@@ -224,7 +256,7 @@ fn one_run(seen: &mut Seen, s: &State, code: &[u8], memory: &[u32], limit: u64) 
 
 fn one_start(seen: &mut Seen, code: &[u8], memory: &[u32], d: u32, n: u32) {
     let want = arm::start(code, memory, d, n);
-    same("start", (code.len(), memory.len(), d, n), device::start(code, memory, d, n), want.clone());
+    same("start", (code.len(), memory.len(), d, n), proved::start(code, memory, d, n), want.clone());
     seen.starts[want.0 as usize] += 1;
 }
 
@@ -314,6 +346,15 @@ fn every_decoding() {
 #[test]
 fn every_encoding() {
     print(&format!("encode: {} instructions", encodings(&mut Random(2))));
+}
+
+#[test]
+fn every_number() {
+    let [encoded, out_of_range, no_instruction] = numbered_encodings(&mut Random(6));
+    assert!(encoded > 10_000 && out_of_range > 10_000 && no_instruction > 1_000_000);
+    print(&format!(
+        "encode by number: {encoded} encoded, {out_of_range} out of range, {no_instruction} of numbers 34 to 255"
+    ));
 }
 
 #[test]

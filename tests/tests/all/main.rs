@@ -1,14 +1,31 @@
 //! The proved calls against second implementations. Every test says how much it went through.
 
 use std::io::Write;
+use std::path::{Path, PathBuf};
 
 mod boundary;
 mod cases;
 mod documents;
+mod failures;
 mod front;
+mod header;
 mod machine;
+mod programs;
 mod runs;
 mod stack;
+
+fn repository() -> PathBuf {
+    Path::new(env!("CARGO_MANIFEST_DIR")).parent().expect("the repository").to_path_buf()
+}
+
+/// A folder for a test's own files: tests run at the same time, each in a thread that has its name.
+fn scratch(name: &str) -> PathBuf {
+    let thread = std::thread::current();
+    let test = thread.name().expect("a test").replace("::", "-");
+    let folder = Path::new(env!("CARGO_TARGET_TMPDIR")).join(test).join(name);
+    std::fs::create_dir_all(&folder).expect("a folder");
+    folder
+}
 
 /// Prints a line past the test runner's capture, so that a plain `cargo test`
 /// shows how much the tests went through.

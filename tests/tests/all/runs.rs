@@ -7,7 +7,7 @@ use reference::generate::{edges, starting_words, valid_source, Random};
 use reference::meaning::{AccessKind, State, Thing};
 use reference::table::Row;
 use tests::arm::{self, Touch, DATA};
-use tests::{device, needed_words, second, Translation, Translator, CODE_BYTES, TABLE_WORDS};
+use tests::{needed_words, proved, second, Translation, Translator, CODE_BYTES, TABLE_WORDS};
 
 /// No move of the source takes more instructions than this,
 const INSTRUCTIONS_A_MOVE: u64 = 20;
@@ -83,8 +83,8 @@ struct Pair<'p> {
     /// The second interpreter's state, and the proved machine's.
     state: arm::State,
     memory: Vec<u32>,
-    device_state: arm::State,
-    device_memory: Vec<u32>,
+    proved_state: arm::State,
+    proved_memory: Vec<u32>,
     /// Changes of declared words and entries of the access list so far, and the latter alone.
     touches: u64,
     accesses: u64,
@@ -97,9 +97,9 @@ impl<'p> Pair<'p> {
     fn start(accepted: &'p Accepted<'p>, got: Translation, image: &'p [u8], memory: Vec<u32>) -> Pair<'p> {
         let (status, state) = arm::start(image, &memory, got.data, got.depth);
         assert_eq!(status, 0, "start");
-        assert_eq!(device::start(image, &memory, got.data, got.depth), (0, state.clone()), "start");
+        assert_eq!(proved::start(image, &memory, got.data, got.depth), (0, state.clone()), "start");
         let needed = needed_words(got.data, got.depth);
-        assert_eq!(device::start(image, &memory[..needed - 1], got.data, got.depth).0, 33, "start");
+        assert_eq!(proved::start(image, &memory[..needed - 1], got.data, got.depth).0, 33, "start");
         let arrays =
             accepted.rows.iter().filter(|row| row[0] == 2).map(|&[_, o, l, _]: &Row| (o, l)).collect();
         Pair {
@@ -109,9 +109,9 @@ impl<'p> Pair<'p> {
             declared: got.data,
             needed,
             source: Source::start(accepted, &memory),
-            device_state: state.clone(),
+            proved_state: state.clone(),
             state,
-            device_memory: memory.clone(),
+            proved_memory: memory.clone(),
             memory,
             touches: 0,
             accesses: 0,
@@ -153,15 +153,15 @@ impl<'p> Pair<'p> {
 
     /// The two machines agree: states always, memory wholly where it is small.
     fn agree(&self, wholly: bool) {
-        assert_eq!(self.device_state, self.state);
+        assert_eq!(self.proved_state, self.state);
         if wholly || self.memory.len() < 100 {
-            assert!(self.device_memory == self.memory, "memory");
+            assert!(self.proved_memory == self.memory, "memory");
         }
     }
 
     fn step(&mut self) {
         let want = self.instruction();
-        let got = device::step(&mut self.device_state, self.image, &mut self.device_memory);
+        let got = proved::step(&mut self.proved_state, self.image, &mut self.proved_memory);
         assert_eq!(got, want, "step");
         self.agree(false);
     }
@@ -177,7 +177,7 @@ impl<'p> Pair<'p> {
         }
         // a run that ends before its limit ends alike under any larger one
         let asked = if want.0 == 1 && want.2 < limit { u64::MAX } else { limit };
-        let got = device::run(&mut self.device_state, self.image, &mut self.device_memory, asked);
+        let got = proved::run(&mut self.proved_state, self.image, &mut self.proved_memory, asked);
         assert_eq!(got, want, "run to {limit}");
         self.agree(false);
     }
@@ -303,7 +303,7 @@ fn accepted_edges(translator: Translator, seen: &mut Seen) {
 #[test]
 fn generated_programs() {
     let mut seen = Seen::default();
-    generated(device::translate, 100_000..121_000, &mut seen);
+    generated(proved::translate, 100_000..121_000, &mut seen);
     assert!(seen.programs >= 20_000);
     assert!(seen.ends.iter().all(|&count| count > 100), "every end is seen");
     seen.print("generated programs");
@@ -312,7 +312,7 @@ fn generated_programs() {
 #[test]
 fn programs_at_the_limits() {
     let mut seen = Seen::default();
-    accepted_edges(device::translate, &mut seen);
+    accepted_edges(proved::translate, &mut seen);
     seen.print("programs at the limits");
 }
 

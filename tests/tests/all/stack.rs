@@ -1,7 +1,7 @@
 //! The stack that a translation takes is bounded: 64 KB, whatever the source.
 
 use reference::generate::{program, render, Random};
-use tests::{device, stack, CODE_BYTES, TABLE_WORDS};
+use tests::{proved, stack, CODE_BYTES, TABLE_WORDS};
 
 const MOST: usize = 64 << 10;
 
@@ -81,7 +81,7 @@ fn every_source_takes_bounded_stack() {
     let taken = stack::taken(&sources);
     let (most, worst) = taken.iter().zip(&sources).max().expect("sources");
     let status = |source: &Vec<u8>| {
-        device::translate(source, &mut vec![0; TABLE_WORDS], &mut vec![0; CODE_BYTES]).status
+        proved::translate(source, &mut vec![0; TABLE_WORDS], &mut vec![0; CODE_BYTES]).status
     };
     let accepted = taken.iter().zip(&sources).filter(|(_, s)| status(s) == 0).map(|(n, _)| *n).max();
     let least = taken.iter().min().expect("sources");

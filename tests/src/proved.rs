@@ -4,7 +4,7 @@ use crate::arm::{Instr, State, OPS};
 use crate::Translation;
 
 extern "C" {
-    fn device_translate(
+    fn gutilamboy_translate(
         source: *const u8,
         source_len: usize,
         table: *mut u32,
@@ -13,9 +13,9 @@ extern "C" {
         code_len: usize,
         out: *mut [u32; 7],
     );
-    fn device_encode(op: u8, a: u8, b: u8, c: u8, k: u32, out: *mut [u32; 4]);
-    fn device_decode(first: u16, second: u16, out: *mut [u32; 5]);
-    fn device_start(
+    fn gutilamboy_encode(op: u8, a: u8, b: u8, c: u8, k: u32, out: *mut [u32; 4]);
+    fn gutilamboy_decode(first: u16, second: u16, out: *mut [u32; 5]);
+    fn gutilamboy_start(
         code: *const u8,
         code_len: usize,
         memory: *const u32,
@@ -24,7 +24,7 @@ extern "C" {
         depth: u32,
         state: *mut [u32; 12],
     ) -> u32;
-    fn device_step(
+    fn gutilamboy_step(
         code: *const u8,
         code_len: usize,
         memory: *mut u32,
@@ -32,7 +32,7 @@ extern "C" {
         state: *mut [u32; 12],
         out: *mut [u32; 2],
     );
-    fn device_run(
+    fn gutilamboy_run(
         code: *const u8,
         code_len: usize,
         memory: *mut u32,
@@ -46,7 +46,7 @@ extern "C" {
 pub fn translate(source: &[u8], table: &mut [u32], code: &mut [u8]) -> Translation {
     let mut out = [9; 7];
     unsafe {
-        device_translate(
+        gutilamboy_translate(
             source.as_ptr(),
             source.len(),
             table.as_mut_ptr(),
@@ -63,15 +63,25 @@ pub fn translate(source: &[u8], table: &mut [u32], code: &mut [u8]) -> Translati
 /// Status, count, first and second halfword.
 pub fn encode(op: u8, a: u8, b: u8, c: u8, k: i32) -> [u32; 4] {
     let mut out = [9; 4];
-    unsafe { device_encode(op, a, b, c, k as u32, &mut out) };
+    unsafe { gutilamboy_encode(op, a, b, c, k as u32, &mut out) };
+    out
+}
+
+/// The number of the instruction, or 34, and the fields a, b, c, k.
+pub fn decode_numbers(first: u16, second: u16) -> [u32; 5] {
+    let mut out = [9; 5];
+    unsafe { gutilamboy_decode(first, second, &mut out) };
     out
 }
 
 pub fn decode(first: u16, second: u16) -> Option<Instr> {
-    let mut out = [9; 5];
-    unsafe { device_decode(first, second, &mut out) };
-    let op = *OPS.get(out[0] as usize)?;
-    Some(Instr { op, a: out[1] as u8, b: out[2] as u8, c: out[3] as u8, k: out[4] as i32 })
+    let [number, a, b, c, k] = decode_numbers(first, second);
+    if number == 34 {
+        assert_eq!([a, b, c, k], [0; 4], "fields of no instruction");
+        return None;
+    }
+    let byte = |field: u32| u8::try_from(field).expect("a field of a byte");
+    Some(Instr { op: OPS[number as usize], a: byte(a), b: byte(b), c: byte(c), k: k as i32 })
 }
 
 fn words(s: &State) -> [u32; 12] {
@@ -88,7 +98,7 @@ fn state(w: [u32; 12]) -> State {
 pub fn start(code: &[u8], memory: &[u32], declared: u32, depth: u32) -> (u32, State) {
     let mut w = [9; 12];
     let status = unsafe {
-        device_start(code.as_ptr(), code.len(), memory.as_ptr(), memory.len(), declared, depth, &mut w)
+        gutilamboy_start(code.as_ptr(), code.len(), memory.as_ptr(), memory.len(), declared, depth, &mut w)
     };
     (status, state(w))
 }
@@ -96,7 +106,9 @@ pub fn start(code: &[u8], memory: &[u32], declared: u32, depth: u32) -> (u32, St
 pub fn step(s: &mut State, code: &[u8], memory: &mut [u32]) -> (u32, u32) {
     let mut w = words(s);
     let mut out = [9; 2];
-    unsafe { device_step(code.as_ptr(), code.len(), memory.as_mut_ptr(), memory.len(), &mut w, &mut out) };
+    unsafe {
+        gutilamboy_step(code.as_ptr(), code.len(), memory.as_mut_ptr(), memory.len(), &mut w, &mut out)
+    };
     *s = state(w);
     (out[0], out[1])
 }
@@ -105,8 +117,9 @@ pub fn run(s: &mut State, code: &[u8], memory: &mut [u32], limit: u64) -> (u32, 
     let mut w = words(s);
     let mut out = [9; 3];
     unsafe {
-        device_run(code.as_ptr(), code.len(), memory.as_mut_ptr(), memory.len(), limit, &mut w, &mut out)
+        gutilamboy_run(code.as_ptr(), code.len(), memory.as_mut_ptr(), memory.len(), limit, &mut w, &mut out)
     };
     *s = state(w);
-    (out[0] as u32, out[1] as u32, out[2])
+    let word = |number: u64| u32::try_from(number).expect("a word");
+    (word(out[0]), word(out[1]), out[2])
 }
