@@ -58,7 +58,3 @@ mutual
 
 pub nests : (p : Program) → nesting p ≤ max (depth p) (deepest p)
 nests (program ss p) = omega (arith, nests-process p, nests-within p)
-
--- a program within document 01's limit nests within it
-pub nests-bounded : (p : Program) → too-deep p ≡ false → nesting p ≤ depth-limit
-nests-bounded p h = omega (arith, nests p, ltb-false depth-limit (max (depth p) (deepest p)) h)

@@ -110,11 +110,6 @@ same-equal (x ∷ a) (y ∷ b) e =
     let t = same-equal a b q in
     cc
 
-pub equal-same : (a : List ℕ) → same a a ≡ true
-unfolding same
-equal-same [] = refl
-equal-same (x ∷ a) = rw (eq-eqb x x refl) (equal-same a)
-
 -- a run is no longer than what it stands in
 pub span-length : (c : Class) (bs : List ℕ) → span c bs ≤ length bs
 unfolding span

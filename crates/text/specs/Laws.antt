@@ -91,9 +91,6 @@ joined l xs ys m n p q = q ∙ ap (λ (r : List ℕ). fitted (r ++ ys)) p ∙ fi
 
 -- ── the seven lines ──
 
-pub length-entry : (name : List ℕ) (n : ℕ) → length (entry name n) ≤ length name + 11
-length-entry name n = simp length-append (omega (arith, length-digits 9 n))
-
 -- they fit in a line
 pub summary-fits : (s p t r d n c : ℕ) → fitted (summary s p t r d n c) ≡ summary s p t r d n c
 unfolding summary
