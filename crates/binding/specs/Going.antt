@@ -12,8 +12,10 @@ use borrow.Author.Tests.{ltb-false}
 use Rattle.word.specs.Choice.{pick}
 use Rattle.word.specs.ChoiceLaws.{by-test}
 use Rattle.spelling.specs.Kinds as kind
+use Rattle.token.specs.Refusals as refusal
 use Rattle.grammar.specs.Grammar.{Specification, commented, Process, text-process, text-specifications}
 use Rattle.grammar.specs.Tokens.{unread}
+use Rattle.program.specs.Layout.{row-words}
 use Rattle.program.specs.Rows.{declared-rows}
 use Rattle.names.specs.Scope.{Meaning, Entry, Scope, lookup, empty-scope, meaning-of, declare, declare-all}
 use Rattle.names.specs.Complaints.{Complaint, Verdict, fine, refused, is-known, when, bad-length, of-specification, of-specifications}
@@ -21,6 +23,7 @@ use Rattle.names.specs.Accepted.{none-right}
 use Rattle.names.specs.First.{first}
 use Rattle.names.specs.Resolve.{declarations}
 use Rattle.expressions.specs.Parts.{table-one}
+use Rattle.name_table.specs.Sorts as name-sort
 use Rattle.name_table.specs.View.{Table, view, meant, by-sort, text-at, place-at}
 use Rattle.name_table.specs.View as views
 use Rattle.judging.specs.Judge.{verdict-of, or-else, first-append, listed, over, constant-read, constant-at, complaints-by, item-of, item-row, specification-at, width, specified-complaints, specified-scope, specified-rows}
@@ -58,31 +61,31 @@ unfolding complaints-by item-of
 room k m status word names words rows p q = by (eqb k kind.var) (eqb k kind.array) (eqb status 0)
   where
     known : List ℕ
-    known = when (is-known m) 9
+    known = when (is-known m) refusal.declared-twice
 
     full : ℕ → List ℕ
-    full more = when (over names words more) 12
+    full more = when (over names words more) refusal.too-much
 
     array-numbers : Bool → List ℕ
-    array-numbers c = known ++ pick c (when (bad-length word) 11 ++ full word) (full 0)
+    array-numbers c = known ++ pick c (when (bad-length word) refusal.bad-length ++ full word) (full 0)
 
     rest : Bool → List Complaint
     rest c = listed q (pick c [] (status ∷ []))
 
     it : Bool → Bool → Item
     it a b =
-        pick a (record { sort = 1; row = rows; word = words; size = 1; rows = 1; words = 1 })
-        (pick b (record { sort = 2; row = rows; word = words; size = word; rows = 1; words = word }) (record { sort = 3; row = 0; word = word; size = 0; rows = 0; words = 0 }))
+        pick a (record { sort = name-sort.var; row = rows; word = words; size = 1; rows = 1; words = 1 })
+        (pick b (record { sort = name-sort.array; row = rows; word = words; size = word; rows = 1; words = word }) (record { sort = name-sort.val; row = 0; word = word; size = 0; rows = 0; words = 0 }))
 
     has : (more : ℕ) → known ++ full more ≡ [] → (names ≤ 255) × (words + more ≤ 8192)
-    has more e = room-over names words more (not-when (over names words more) 12 (none-right known (full more) e))
+    has more e = room-over names words more (not-when (over names words more) refusal.too-much (none-right known (full more) e))
 
     by : (a b c : Bool) → first (pick a (listed p (known ++ full 1)) (pick b (listed p (array-numbers c) ++ rest c) (listed p (known ++ full 0) ++ rest c))) ≡ fine → (names ≤ 255) × (words + it a b .words ≤ 8192) × (it a b .rows ≤ 1)
     by true b c e = let r = has 1 (listed-none p (known ++ full 1) e) in (r .0, r .1, omega arith)
     by false true true e =
         let x = listed-none p (array-numbers true) (quiet (listed p (array-numbers true)) (rest true) e .0) in
-        let y = none-right (when (bad-length word) 11) (full word) (none-right known (when (bad-length word) 11 ++ full word) x) in
-        let r = room-over names words word (not-when (over names words word) 12 y) in
+        let y = none-right (when (bad-length word) refusal.bad-length) (full word) (none-right known (when (bad-length word) refusal.bad-length ++ full word) x) in
+        let r = room-over names words word (not-when (over names words word) refusal.too-much y) in
         (r .0, r .1, omega arith)
     by false true false e = let x = listed-none q (status ∷ []) (quiet (listed p (array-numbers false)) (rest false) e .1) in let z : _≡_ {A = ℕ} 0 1 = cc in absurd (omega arith)
     by false false c e = let r = has 0 (listed-none p (known ++ full 0) (quiet (listed p (known ++ full 0)) (rest c) e .0)) in (r .0, r .1, omega arith)
@@ -91,16 +94,16 @@ first-fine : (cs : List Complaint) → first cs ≡ fine → cs ≡ []
 first-fine [] e = refl
 first-fine (c ∷ cs) e = let z : _≡_ {A = ℕ} 0 1 = cc in absurd (omega arith)
 
-item-sized : (k word rows words : ℕ) → length (item-row (item-of k word rows words)) ≡ 4 * item-of k word rows words .rows
+item-sized : (k word rows words : ℕ) → length (item-row (item-of k word rows words)) ≡ row-words * item-of k word rows words .rows
 unfolding item-of
 item-sized k word rows words = by (eqb k kind.var) (eqb k kind.array)
   where
     it : Bool → Bool → Item
     it a b =
-        pick a (record { sort = 1; row = rows; word = words; size = 1; rows = 1; words = 1 })
-        (pick b (record { sort = 2; row = rows; word = words; size = word; rows = 1; words = word }) (record { sort = 3; row = 0; word = word; size = 0; rows = 0; words = 0 }))
+        pick a (record { sort = name-sort.var; row = rows; word = words; size = 1; rows = 1; words = 1 })
+        (pick b (record { sort = name-sort.array; row = rows; word = words; size = word; rows = 1; words = word }) (record { sort = name-sort.val; row = 0; word = word; size = 0; rows = 0; words = 0 }))
 
-    by : (a b : Bool) → length (item-row (it a b)) ≡ 4 * it a b .rows
+    by : (a b : Bool) → length (item-row (it a b)) ≡ row-words * it a b .rows
     by true b = refl
     by false true = refl
     by false false = refl
@@ -111,7 +114,7 @@ pub record Put (e : Item) (p n names made used : ℕ) (old new : Table) (t t′ 
   pub rows : rows′ ≡ made + e .rows
   pub words : words′ ≡ used + e .words
   pub name : (source : List ℕ) → view source new (names + 1) ≡ record { name = views.text source p n; meaning = meant (by-sort (e .sort) (e .row) (e .word) (e .size)) } ∷ view source old names
-  pub table : t′ ≡ sets t (4 * made) (item-row e)
+  pub table : t′ ≡ sets t (row-words * made) (item-row e)
 
 abbrev pub Puts : Item → ℕ → ℕ → ℕ → ℕ → ℕ → Table → Table → List ℕ → List ℕ → Progress → Type 0
 Puts e p n names made used old new t t′ (Refused k q) = ⊥
@@ -140,7 +143,7 @@ module _ (source kinds places values : List ℕ) where
     pub rows : rows′ ≡ s .rows + read-item s i .rows
     pub words : words′ ≡ s .words + read-item s i .words
     pub name : view source names′ (s .names + 1) ≡ record { name = text (i + 1); meaning = meant (by-sort (read-item s i .sort) (read-item s i .row) (read-item s i .word) (read-item s i .size)) } ∷ s .entries
-    pub table : t′ ≡ sets t (4 * s .rows) (item-row (read-item s i))
+    pub table : t′ ≡ sets t (row-words * s .rows) (item-row (read-item s i))
 
   abbrev pub Enters : Scope → ℕ → Table → Table → List ℕ → List ℕ → Progress → Type 0
   Enters s i names names′ t t′ (Refused n p) = first (read-complaints s i) ≡ refused (record { number = n; place = p })
@@ -165,7 +168,7 @@ module _ (source kinds places values : List ℕ) where
           rows = h .rows ∙ ap (λ (x : Item). s .rows + x .rows) e′;
           words = h .words ∙ ap (λ (x : Item). s .words + x .words) e′;
           name = h .name source ∙ (λ j. record { name = views.text source (ep j) (en j); meaning = meant (by-sort (e′ j .sort) (e′ j .row) (e′ j .word) (e′ j .size)) } ∷ sym hs j);
-          table = h .table ∙ ap (λ (x : Item). sets t (4 * s .rows) (item-row x)) e′;
+          table = h .table ∙ ap (λ (x : Item). sets t (row-words * s .rows) (item-row x)) e′;
         }
 
   pub entered-room : (s : Scope) (i : ℕ) (names names′ : Table) (t t′ : List ℕ) (count rows words : ℕ) → Entered s i names names′ t t′ count rows words → s .rows ≤ s .names → (rows ≤ count) × (count ≤ 256) × (words ≤ 8192)
@@ -181,7 +184,7 @@ module _ (source kinds places values : List ℕ) where
     pub complaints : of-specifications text place ds empty-scope ≡ of-specifications text place left (scope-of source names count rows words)
     pub scope : declare-all text ds empty-scope ≡ declare-all text left (scope-of source names count rows words)
     pub done : List ℕ
-    pub sized : length done ≡ 4 * rows
+    pub sized : length done ≡ row-words * rows
     pub written : t ≡ sets t₀ 0 done
     pub declared : declared-rows (declarations text ds empty-scope) 0 ≡ done ++ declared-rows (declarations text left (scope-of source names count rows words)) words
 
@@ -190,7 +193,7 @@ module _ (source kinds places values : List ℕ) where
     pub quiet : of-specifications text place ds empty-scope ≡ []
     pub scope : declare-all text ds empty-scope ≡ scope-of source names count rows words
     pub table : t′ ≡ sets t 0 (declared-rows (declarations text ds empty-scope) 0)
-    pub sized : length (declared-rows (declarations text ds empty-scope) 0) ≡ 4 * rows
+    pub sized : length (declared-rows (declarations text ds empty-scope) 0) ≡ row-words * rows
 
   abbrev pub Fills : List Specification → List ℕ → List ℕ → Table → Progress → Type 0
   Fills ds t t′ names (Refused n p) = first (of-specifications text place ds empty-scope) ≡ refused (record { number = n; place = p })

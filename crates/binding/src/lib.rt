@@ -10,6 +10,7 @@ use judging::judge;
 use judging::width;
 use name_table::add;
 use name_table::number;
+use name_table::sort;
 use name_table::stands_for;
 use spelling::kind;
 ghost use mathlib.Core.Path.{_≡_};
@@ -103,7 +104,7 @@ fn enter(
         word,
         size,
     );
-    if sort == 3 {
+    if sort == sort::VAL {
         return Progress::Declared(names + 1, made + e.rows, used + e.words);
     }
     put(table, made, sort, word, size, 0);

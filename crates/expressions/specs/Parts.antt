@@ -19,6 +19,8 @@ use Rattle.grammar.specs.Rows.{row, monadic-number, diadic-number, count-expres
 use Rattle.grammar.specs.RowLaws.{sets-rows, length-expression, length-chain, length-operand}
 use Rattle.grammar.specs.Moves.{head-is, run-number, run-name, run-brackets, run-brackets-end, run-brackets-stop, run-subscript, run-subscript-end, run-subscript-stop, run-variable, run-expression, run-monadic, run-under, run-single, run-diadic, run-last, run-link}
 use Rattle.grammar.specs.Unread.{inside, unread-number, unread-name, unread-mark, unread-joins, unread-negates, unread-not, unread-goes-on, no-operand}
+use Rattle.program.specs.Layout.{row-words}
+use Rattle.program.specs.Layout as layout
 use Rattle.expressions.specs.Reads.{Form, Moved, Reads, operand-form, expression-form, chain-form, closed, deepened, counted-row, tabled, row-of-last, row-of-two, Within, Ready, Shallow}
 use Rattle.expressions.specs.declared.Read.{Read}
 use Rattle.expressions.specs.declared.Read.the-variants.{Done, Bad}
@@ -43,7 +45,7 @@ shallow-after kinds i n (Bad x) s h l e = rw e tt
 pub monadic-big : (o : ℕ) → is-monadic o ≡ true → 2 < o
 monadic-big o h = ⊎-elim (λ e. let z = eqb-true o kind.minus e in omega arith) (λ e. let z = eqb-true o kind.not e in omega arith) (either (eqb o kind.minus) (eqb o kind.not) h)
 
-pub diadic-big : (o : ℕ) → is-diadic o ≡ true → (30 < o) × (o ≤ 44)
+pub diadic-big : (o : ℕ) → is-diadic o ≡ true → (kind.operator-base < o) × (o ≤ kind.at-least)
 diadic-big o h =
     let j = both (leb kind.plus o) (leb o kind.at-least) h in
     let x = leb-true kind.plus o (j .0) in
@@ -58,13 +60,13 @@ moved-closed kinds i n k (Done j m p d) z h =
 moved-closed kinds i n k (Bad x) z h = h
 
 -- rows after rows, and the row that ends them
-pub table-one : (t t′ xs ρ : List ℕ) (n c m : ℕ) → length xs ≡ 4 * c → n + c ≡ m → t′ ≡ sets t (4 * n) xs → sets t′ (4 * m) ρ ≡ sets t (4 * n) (xs ++ ρ)
+pub table-one : (t t′ xs ρ : List ℕ) (n c m : ℕ) → length xs ≡ row-words * c → n + c ≡ m → t′ ≡ sets t (row-words * n) xs → sets t′ (row-words * m) ρ ≡ sets t (row-words * n) (xs ++ ρ)
 table-one t t′ xs ρ n c m l e h = rw h (sets-rows xs t n c m ρ l e)
 
-pub table-two : (t t′ t″ xs ys ρ : List ℕ) (n a m b l : ℕ) → length xs ≡ 4 * a → length ys ≡ 4 * b → n + a ≡ m → m + b ≡ l → t′ ≡ sets t (4 * n) xs → t″ ≡ sets t′ (4 * m) ys → sets t″ (4 * l) ρ ≡ sets t (4 * n) (xs ++ ys ++ ρ)
+pub table-two : (t t′ t″ xs ys ρ : List ℕ) (n a m b l : ℕ) → length xs ≡ row-words * a → length ys ≡ row-words * b → n + a ≡ m → m + b ≡ l → t′ ≡ sets t (row-words * n) xs → t″ ≡ sets t′ (row-words * m) ys → sets t″ (row-words * l) ρ ≡ sets t (row-words * n) (xs ++ ys ++ ρ)
 table-two t t′ t″ xs ys ρ n a m b l p q e f x y = table-one t t″ (xs ++ ys) ρ n (a + b) l (simp length-append (omega arith)) (omega arith) (y ∙ table-one t t′ xs ys n a m p e x)
 
-pub table-three : (t t′ t″ t‴ xs ys zs ρ : List ℕ) (n a m b l c k : ℕ) → length xs ≡ 4 * a → length ys ≡ 4 * b → length zs ≡ 4 * c → n + a ≡ m → m + b ≡ l → l + c ≡ k → t′ ≡ sets t (4 * n) xs → t″ ≡ sets t′ (4 * m) ys → t‴ ≡ sets t″ (4 * l) zs → sets t‴ (4 * k) ρ ≡ sets t (4 * n) (xs ++ ys ++ zs ++ ρ)
+pub table-three : (t t′ t″ t‴ xs ys zs ρ : List ℕ) (n a m b l c k : ℕ) → length xs ≡ row-words * a → length ys ≡ row-words * b → length zs ≡ row-words * c → n + a ≡ m → m + b ≡ l → l + c ≡ k → t′ ≡ sets t (row-words * n) xs → t″ ≡ sets t′ (row-words * m) ys → t‴ ≡ sets t″ (row-words * l) zs → sets t‴ (row-words * k) ρ ≡ sets t (row-words * n) (xs ++ ys ++ zs ++ ρ)
 table-three t t′ t″ t‴ xs ys zs ρ n a m b l c k p q r e f g x y z = table-one t t‴ (xs ++ ys ++ zs) ρ n (a + b + c) k (simp length-append (omega arith)) (omega arith) (z ∙ table-two t t′ t″ xs ys zs n a m b l p q e f x y)
 
 -- a part and the token that closes it
@@ -95,19 +97,19 @@ module _ (kinds values : List ℕ) (i n : ℕ) (t : List ℕ) where
     close-part (Bad x) t′ h = (h .0, λ k. h .1 (c k))
 
   -- operands
-  pub operand-number : (t′ : List ℕ) → getD kinds i 0 ≡ 1 → t′ ≡ sets t (4 * n) (row 3 (getD values i 0) 0 0) → Reads operand-form kinds values i n t (Done (i + 1) (n + 1) 0 1) t′
+  pub operand-number : (t′ : List ℕ) → getD kinds i 0 ≡ kind.number → t′ ≡ sets t (row-words * n) (row layout.number (getD values i 0) 0 0) → Reads operand-form kinds values i n t (Done (i + 1) (n + 1) 0 1) t′
   unfolding count-operand rows-operand
   operand-number t′ e h =
-      let l = inside kinds i 1 e (omega arith) in
+      let l = inside kinds i kind.number e (omega arith) in
       (record { short = omega arith; grew = omega arith; few = omega arith; shallow = omega arith; low = omega arith }, record { tree = constant (getD values i 0); counted = refl; table = h; depths = refl; deepests = refl; comes = λ k. rw (unread-number kinds values i e) (run-number _ k _) })
 
-  pub operand-variable : (t′ : List ℕ) → getD kinds i 0 ≡ 2 → ¬ (getD kinds (i + 1) 0 ≡ kind.open-subscript) → t′ ≡ sets t (4 * n) (row 4 i 0 0) → Reads operand-form kinds values i n t (Done (i + 1) (n + 1) 0 1) t′
+  pub operand-variable : (t′ : List ℕ) → getD kinds i 0 ≡ kind.name → ¬ (getD kinds (i + 1) 0 ≡ kind.open-subscript) → t′ ≡ sets t (row-words * n) (row layout.variable i 0 0) → Reads operand-form kinds values i n t (Done (i + 1) (n + 1) 0 1) t′
   unfolding count-operand rows-operand
   operand-variable t′ e z h =
-      let l = inside kinds i 2 e (omega arith) in
+      let l = inside kinds i kind.name e (omega arith) in
       (record { short = omega arith; grew = omega arith; few = omega arith; shallow = omega arith; low = omega arith }, record { tree = variable i; counted = refl; table = h; depths = refl; deepests = refl; comes = λ k. rw (unread-name kinds values i e) (run-name _ k i ∙ run-variable _ k i (unread-not kinds values (i + 1) kind.open-subscript (omega arith) z)) })
 
-  pub operand-none : i ≤ length kinds → (t′ : List ℕ) → ¬ (getD kinds i 0 ≡ 1) → ¬ (getD kinds i 0 ≡ 2) → ¬ (getD kinds i 0 ≡ kind.open-bracket) → Reads operand-form kinds values i n t (Bad i) t′
+  pub operand-none : i ≤ length kinds → (t′ : List ℕ) → ¬ (getD kinds i 0 ≡ kind.number) → ¬ (getD kinds i 0 ≡ kind.name) → ¬ (getD kinds i 0 ≡ kind.open-bracket) → Reads operand-form kinds values i n t (Bad i) t′
   operand-none l t′ a b c = (l, λ k. no-operand kinds values i k a b c)
 
   into-brackets : getD kinds i 0 ≡ kind.open-bracket → (k : OperandContext) → run (unread kinds values i) (need-operand k) ≡ run (unread kinds values (i + 1)) (need-expression (in-brackets k))
@@ -122,10 +124,10 @@ module _ (kinds values : List ℕ) (i n : ℕ) (t : List ℕ) where
       (record { short = w .short; grew = w .grew; few = omega arith; shallow = omega arith; low = omega arith }, record { tree = bracketed (h .1 .tree); counted = h .1 .counted; table = h .1 .table; depths = omega arith; deepests = omega arith; comes = λ k. into-brackets e k ∙ h .1 .comes k })
   brackets-by (Bad x) t′ e h = (h .0, λ k. into-brackets e k ∙ h .1 k)
 
-  into-subscript : getD kinds i 0 ≡ 2 → getD kinds (i + 1) 0 ≡ kind.open-subscript → (k : OperandContext) → run (unread kinds values i) (need-operand k) ≡ run (unread kinds values (i + 2)) (need-expression (in-subscript i k))
+  into-subscript : getD kinds i 0 ≡ kind.name → getD kinds (i + 1) 0 ≡ kind.open-subscript → (k : OperandContext) → run (unread kinds values i) (need-operand k) ≡ run (unread kinds values (i + 2)) (need-expression (in-subscript i k))
   into-subscript e f k = rw (unread-name kinds values i e) (run-name _ k i ∙ rw (unread-mark kinds values (i + 1) kind.open-subscript f (omega arith)) (run-subscript _ k i ∙ ap (λ (x : ℕ). run (unread kinds values x) (need-expression (in-subscript i k))) (omega arith)))
 
-  element-by : (q : Read) (t′ : List ℕ) → getD kinds i 0 ≡ 2 → getD kinds (i + 1) 0 ≡ kind.open-subscript → Reads (closing expression-form OperandContext (in-subscript i) (λ e k. have-operand (element i e) k)) kinds values (i + 2) n t q t′ → Reads operand-form kinds values i n t (deepened (counted-row q) 0 0 0 1) (tabled t′ q (row-of-last 5 i))
+  element-by : (q : Read) (t′ : List ℕ) → getD kinds i 0 ≡ kind.name → getD kinds (i + 1) 0 ≡ kind.open-subscript → Reads (closing expression-form OperandContext (in-subscript i) (λ e k. have-operand (element i e) k)) kinds values (i + 2) n t q t′ → Reads operand-form kinds values i n t (deepened (counted-row q) 0 0 0 1) (tabled t′ q (row-of-last layout.element i))
   unfolding count-operand rows-operand
   element-by (Done j m p d) t′ e f h =
       let w = h .0 in
@@ -148,7 +150,7 @@ module _ (kinds values : List ℕ) (i n : ℕ) (t : List ℕ) (r : Read) (t′ :
   pub operand-brackets : getD kinds i 0 ≡ kind.open-bracket → Reads expression-form kinds values (i + 1) n t r t′ → Reads operand-form kinds values i n t (deepened (closed kinds kind.close-bracket r) 0 0 0 1) t′
   operand-brackets e h = brackets-by kinds values i n t (closed kinds kind.close-bracket r) t′ e (close-part kinds values (i + 1) n t expression-form OperandContext in-brackets (λ e k. have-operand (bracketed e) k) kind.close-bracket (omega arith) (λ w e k. run-brackets-end w k e) (λ w e k z. run-brackets-stop w k e z) r t′ h)
 
-  pub operand-element : getD kinds i 0 ≡ 2 → getD kinds (i + 1) 0 ≡ kind.open-subscript → Reads expression-form kinds values (i + 2) n t r t′ → Reads operand-form kinds values i n t (deepened (counted-row (closed kinds kind.close-subscript r)) 0 0 0 1) (tabled t′ (closed kinds kind.close-subscript r) (row-of-last 5 i))
+  pub operand-element : getD kinds i 0 ≡ kind.name → getD kinds (i + 1) 0 ≡ kind.open-subscript → Reads expression-form kinds values (i + 2) n t r t′ → Reads operand-form kinds values i n t (deepened (counted-row (closed kinds kind.close-subscript r)) 0 0 0 1) (tabled t′ (closed kinds kind.close-subscript r) (row-of-last layout.element i))
   operand-element e f h = element-by kinds values i n t (closed kinds kind.close-subscript r) t′ e f (close-part kinds values (i + 2) n t expression-form OperandContext (in-subscript i) (λ e k. have-operand (element i e) k) kind.close-subscript (omega arith) (λ w e k. run-subscript-end w k i e) (λ w e k z. run-subscript-stop w k i e z) r t′ h)
 
 -- expressions and chains
@@ -159,7 +161,7 @@ module _ (kinds values : List ℕ) (i n : ℕ) (t : List ℕ) where
   into-monadic : (o : ℕ) → getD kinds i 0 ≡ o → 2 < o → is-monadic o ≡ true → (k : ExpressionContext) → run (unread kinds values i) (need-expression k) ≡ run (unread kinds values (i + 1)) (need-operand (under o k))
   into-monadic o e big z k = rw (unread-mark kinds values i o e big) (run-monadic _ k o z)
 
-  pub expression-monadic : (o : ℕ) (r : Read) (t′ : List ℕ) → getD kinds i 0 ≡ o → 2 < o → is-monadic o ≡ true → Reads operand-form kinds values (i + 1) n t r t′ → Reads expression-form kinds values i n t (deepened (counted-row r) 0 0 0 1) (tabled t′ r (row-of-last 6 (monadic-number o)))
+  pub expression-monadic : (o : ℕ) (r : Read) (t′ : List ℕ) → getD kinds i 0 ≡ o → 2 < o → is-monadic o ≡ true → Reads operand-form kinds values (i + 1) n t r t′ → Reads expression-form kinds values i n t (deepened (counted-row r) 0 0 0 1) (tabled t′ r (row-of-last layout.monadic (monadic-number o)))
   unfolding count-expression rows-expression
   expression-monadic o (Done j m p d) t′ e big z h =
       let w = h .0 in
@@ -196,7 +198,7 @@ module _ (kinds values : List ℕ) (i n : ℕ) (t : List ℕ) where
 
     -- an operator o at j, and the operands after it
     module _ (o : ℕ) (e : getD kinds j 0 ≡ o) (big : 2 < o) where
-      pub expression-diadic : is-monadic (getD kinds i 0) ≡ false → is-diadic o ≡ true → (r : Read) (t″ : List ℕ) → Reads (chain-form o) kinds values (j + 1) m t′ r t″ → Reads expression-form kinds values i n t (deepened (counted-row r) 0 d 0 1) (tabled t″ r (row-of-two 7 (diadic-number o) (m - 1)))
+      pub expression-diadic : is-monadic (getD kinds i 0) ≡ false → is-diadic o ≡ true → (r : Read) (t″ : List ℕ) → Reads (chain-form o) kinds values (j + 1) m t′ r t″ → Reads expression-form kinds values i n t (deepened (counted-row r) 0 d 0 1) (tabled t″ r (row-of-two layout.diadic (diadic-number o) (m - 1)))
       unfolding count-expression rows-expression
       expression-diadic y z (Done k l a b) t″ g =
           let w = h .0 in
@@ -218,7 +220,7 @@ module _ (kinds values : List ℕ) (i n : ℕ) (t : List ℕ) where
           )
       expression-diadic y z (Bad x) t″ g = (g .0, λ K. to-operand y K ∙ h .1 .comes (first K) ∙ rw (unread-mark kinds values j o e big) (run-diadic _ K o _ z ∙ g .1 (after (h .1 .tree) K)))
 
-      pub chain-more : is-associative o ≡ true → (r : Read) (t″ : List ℕ) → Reads (chain-form o) kinds values (j + 1) m t′ r t″ → Reads (chain-form o) kinds values i n t (deepened (counted-row r) 0 d 0 1) (tabled t″ r (row-of-two 7 (diadic-number o) (m - 1)))
+      pub chain-more : is-associative o ≡ true → (r : Read) (t″ : List ℕ) → Reads (chain-form o) kinds values (j + 1) m t′ r t″ → Reads (chain-form o) kinds values i n t (deepened (counted-row r) 0 d 0 1) (tabled t″ r (row-of-two layout.diadic (diadic-number o) (m - 1)))
       unfolding count-chain rows-chain
       chain-more z (Done k l a b) t″ g =
           let w = h .0 in

@@ -12,6 +12,7 @@ use Rattle.grammar.specs.Automaton.{ExpressionContext, OperandContext, ChainCon
 use Rattle.grammar.specs.Tokens.{unread}
 use Rattle.grammar.specs.Rows.{row, count-expression, count-chain, count-operand, rows-expression, rows-chain, rows-operand}
 use Rattle.grammar.specs.Depth.{depth-expression, depth-chain, depth-operand}
+use Rattle.program.specs.Layout.{row-words}
 use Rattle.expressions.specs.declared.Read.{Read}
 use Rattle.expressions.specs.declared.Read.the-variants.{Done, Bad}
 
@@ -38,7 +39,7 @@ pub record Went (kinds : List ℕ) (i n j m p d : ℕ) : Type 0 where
 pub record Part (F : Form) (kinds values : List ℕ) (i n j m p d : ℕ) (t t′ : List ℕ) : Type 0 where
   pub tree : F .Tree
   pub counted : n + F .count tree ≡ m
-  pub table : t′ ≡ sets t (4 * n) (F .rows tree n)
+  pub table : t′ ≡ sets t (row-words * n) (F .rows tree n)
   pub depths : p ≡ F .depth tree
   pub deepests : d ≡ F .deepest tree
   pub comes : (k : F .Context) → run (unread kinds values i) (F .need k) ≡ run (unread kinds values j) (F .have tree k)
@@ -82,7 +83,7 @@ counted-row (Done j m p d) = Done j (m + 1) p d
 counted-row (Bad x) = Bad x
 
 abbrev pub tabled : List ℕ → Read → (ℕ → List ℕ) → List ℕ
-tabled t (Done j m p d) f = sets t (4 * m) (f m)
+tabled t (Done j m p d) f = sets t (row-words * m) (f m)
 tabled t (Bad x) f = t
 
 -- the row (kind, a, last row, 0), and (kind, a, b, last row)

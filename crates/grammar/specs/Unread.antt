@@ -62,10 +62,10 @@ at-mark : (i k v : ℕ) → 2 < k → token-of i k v ≡ mark k
 at-mark i k v h = rw (ne-eqb k 1 (omega arith), ne-eqb k 2 (omega arith))
 
 module _ (kinds values : List ℕ) (i : ℕ) where
-  pub unread-number : getD kinds i 0 ≡ 1 → unread kinds values i ≡ number (getD values i 0) ∷ unread kinds values (i + 1)
+  pub unread-number : getD kinds i 0 ≡ kind.number → unread kinds values i ≡ number (getD values i 0) ∷ unread kinds values (i + 1)
   unread-number e = unread-cons kinds values i (inside kinds i 1 e (omega arith)) ∙ rw e
 
-  pub unread-name : getD kinds i 0 ≡ 2 → unread kinds values i ≡ name i ∷ unread kinds values (i + 1)
+  pub unread-name : getD kinds i 0 ≡ kind.name → unread kinds values i ≡ name i ∷ unread kinds values (i + 1)
   unread-name e = unread-cons kinds values i (inside kinds i 2 e (omega arith)) ∙ rw e
 
   pub unread-mark : (m : ℕ) → getD kinds i 0 ≡ m → 2 < m → unread kinds values i ≡ mark m ∷ unread kinds values (i + 1)
@@ -84,23 +84,23 @@ module _ (kinds values : List ℕ) (i : ℕ) where
   pub unread-not : (m : ℕ) → 2 < m → ¬ (getD kinds i 0 ≡ m) → head-is (is m) (unread kinds values i) ≡ false
   unread-not m h z = unread-is m h ∙ ne-eqb _ m z
 
-  pub unread-no-name : ¬ (getD kinds i 0 ≡ 2) → head-is is-name (unread kinds values i) ≡ false
+  pub unread-no-name : ¬ (getD kinds i 0 ≡ kind.name) → head-is is-name (unread kinds values i) ≡ false
   unread-no-name z = by-kind kinds values is-name (λ k. eqb k 2) at-name refl i (ltb i (length kinds)) refl ∙ ne-eqb _ 2 z
 
-  pub unread-no-constant : ¬ (getD kinds i 0 ≡ 1) → ¬ (getD kinds i 0 ≡ 2) → head-is is-constant (unread kinds values i) ≡ false
+  pub unread-no-constant : ¬ (getD kinds i 0 ≡ kind.number) → ¬ (getD kinds i 0 ≡ kind.name) → head-is is-constant (unread kinds values i) ≡ false
   unread-no-constant y z = by-kind kinds values is-constant (λ k. pick (eqb k 1) true (eqb k 2)) at-constant refl i (ltb i (length kinds)) refl ∙ rw (ne-eqb (getD kinds i 0) 1 y, ne-eqb (getD kinds i 0) 2 z)
 
   pub unread-goes-on : (o : ℕ) → 2 < o → head-is (goes-on o) (unread kinds values i) ≡ pick (is-associative o) (eqb (getD kinds i 0) o) false
   unread-goes-on o h = by-kind kinds values (goes-on o) (λ k. pick (is-associative o) (eqb k o) false) (λ i k v. rw (at-is o i k v h)) (rw (ne-eqb 0 o (omega arith)) (pick-false (is-associative o))) i (ltb i (length kinds)) refl
 
   -- what starts no operand and no process
-  pub no-operand : (k : OperandContext) → ¬ (getD kinds i 0 ≡ 1) → ¬ (getD kinds i 0 ≡ 2) → ¬ (getD kinds i 0 ≡ kind.open-bracket) → run (unread kinds values i) (need-operand k) ≡ refused (unread kinds values i)
+  pub no-operand : (k : OperandContext) → ¬ (getD kinds i 0 ≡ kind.number) → ¬ (getD kinds i 0 ≡ kind.name) → ¬ (getD kinds i 0 ≡ kind.open-bracket) → run (unread kinds values i) (need-operand k) ≡ refused (unread kinds values i)
   no-operand k a b c =
       by-test (λ (x : Bool). run (unread kinds values i) (need-operand k) ≡ refused (unread kinds values i)) (ltb i (length kinds))
       (λ h. rw (unread-cons kinds values i (ltb-true i (length kinds) h), ne-eqb (getD kinds i 0) 1 a, ne-eqb (getD kinds i 0) 2 b) (run-operand-stop _ k _ (ne-eqb (getD kinds i 0) kind.open-bracket c)))
       (λ h. rw (unread-end kinds values i (ltb-false i (length kinds) h)) (run-operand-end k))
 
-  pub no-process : (K : ProcessContext) → ¬ (getD kinds i 0 ≡ kind.skip) → ¬ (getD kinds i 0 ≡ kind.stop) → ¬ (getD kinds i 0 ≡ 2) → ¬ (getD kinds i 0 ≡ kind.open-brace) → ¬ (getD kinds i 0 ≡ kind.if) → ¬ (getD kinds i 0 ≡ kind.while) → ¬ (getD kinds i 0 ≡ kind.comment) → run (unread kinds values i) (need-process K) ≡ refused (unread kinds values i)
+  pub no-process : (K : ProcessContext) → ¬ (getD kinds i 0 ≡ kind.skip) → ¬ (getD kinds i 0 ≡ kind.stop) → ¬ (getD kinds i 0 ≡ kind.name) → ¬ (getD kinds i 0 ≡ kind.open-brace) → ¬ (getD kinds i 0 ≡ kind.if) → ¬ (getD kinds i 0 ≡ kind.while) → ¬ (getD kinds i 0 ≡ kind.comment) → run (unread kinds values i) (need-process K) ≡ refused (unread kinds values i)
   no-process K s t n b c w m =
       by-test (λ (x : Bool). run (unread kinds values i) (need-process K) ≡ refused (unread kinds values i)) (ltb i (length kinds))
       (λ h. rw (unread-cons kinds values i (ltb-true i (length kinds) h), ne-eqb (getD kinds i 0) 2 n) (by (eqb (getD kinds i 0) 1) refl _))

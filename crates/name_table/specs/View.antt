@@ -10,6 +10,7 @@ use lib.Seq.{getD-set-same, getD-set-other}
 use Rattle.word.specs.Choice.{pick}
 use Rattle.names.specs.Scope.{Entry, same, lookup}
 use Rattle.names.specs.Scope as scope
+use Rattle.name_table.specs.Sorts as name-sort
 use Rattle.name_table.specs.declared.Meaning.{Meaning}
 use Rattle.name_table.specs.declared.Meaning.the-variants.{Unknown, Variable, Array, Constant}
 
@@ -31,7 +32,7 @@ text-at source places values t = text source (getD places t 0) (getD values t 0)
 abbrev pub place-at : List ℕ → ℕ → ℕ
 place-at places t = getD places t 0
 
--- Expected form: "The name table is filled arrays of 256 source places, lengths and declaration rows"; a name's sort is 1 var, 2 array, 3 val,
+-- Expected form: "The name table is filled arrays of 256 source places, lengths and declaration rows"; a name's sort (Sorts),
 -- its word the word offset or a val's word, its size an array's length
 pub record Table : Type 0 where
   pub places : List ℕ
@@ -42,7 +43,7 @@ pub record Table : Type 0 where
   pub sizes : List ℕ
 
 abbrev pub by-sort : ℕ → ℕ → ℕ → ℕ → Meaning
-by-sort sort row word size = pick (eqb sort 1) (Variable row word) (pick (eqb sort 2) (Array row word size) (Constant word))
+by-sort sort row word size = pick (eqb sort name-sort.var) (Variable row word) (pick (eqb sort name-sort.array) (Array row word size) (Constant word))
 
 -- name k
 abbrev pub meaning-at : Table → ℕ → Meaning

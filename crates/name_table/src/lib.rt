@@ -1,4 +1,6 @@
 // The name table: what a name stands for, and a name more.
+pub mod sort;
+
 ghost use mathlib.Core.Path.{_≡_};
 ghost use Prim.Native.Nat.{ℕ, suc, _+_, _<_};
 ghost use mathlib.Core.List.{List, _∷_};
@@ -54,10 +56,10 @@ fn meaning_at(rows: &[u32], sorts: &[u32], words: &[u32], sizes: &[u32], k: usiz
     ensures { λ r. ⌜ r ≡ views.«by-sort» (getD (now (sorts .entry)) k 0) (getD (now (rows .entry)) k 0) (getD (now (words .entry)) k 0) (getD (now (sizes .entry)) k 0) ⌝ }
 {
     let sort = number(sorts, k);
-    if sort == 1 {
+    if sort == sort::VAR {
         return Meaning::Variable(number(rows, k), number(words, k));
     }
-    if sort == 2 {
+    if sort == sort::ARRAY {
         return Meaning::Array(number(rows, k), number(words, k), number(sizes, k));
     }
     Meaning::Constant(number(words, k))

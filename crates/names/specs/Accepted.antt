@@ -8,6 +8,7 @@ use lib.ListN.{length, length-append}
 use lib.Dec.{ltb}
 use borrow.Author.Tests.{ltb-true, ltb-false}
 use Rattle.word.specs.Choice.{pick}
+use Rattle.token.specs.Refusals as refusal
 use Rattle.grammar.specs.Grammar.{Token, number, name, mark, Constant, literal, named, Specification, val, commented, Expression, single, monadic, diadic, Chain, last, more, Operand, element, bracketed, Process, skip, stop, assign, assign-element, empty, braces, conditional, while, after-comment, Processes, only, followed, Program, program, text-expression, text-chain, text-operand, text-process, text-processes, text-constant, text-specification, text-specifications, text-program}
 use Rattle.grammar.specs.Grammar as grammar
 use Rattle.program.specs.Tree as tree
@@ -277,20 +278,20 @@ module _ (text : ℕ → List ℕ) (place : ℕ → ℕ) where
   fits-declare : (d : Specification) (ds : List Declaration) (s : Scope) → Fits ds s → WordsS d → of-specification text place d s ≡ [] → Fits (ds ++ own d s) (declare text d s)
   fits-declare (grammar.var n) ds s f w h =
       let x = none-at n _ h in
-      let r = room s 1 (none-when (too-many s 1) 12 (none-right (when (is-known (meaning-of text s n)) 9) _ x)) in
+      let r = room s 1 (none-when (too-many s 1) refusal.too-much (none-right (when (is-known (meaning-of text s n)) refusal.declared-twice) _ x)) in
       fits-more ds s (text n) tree.var (variable (record { row = s .rows; offset = s .words })) f (r .0) (r .1) tt (declares-last ds tree.var (s .rows) (s .words) (f .rows) (f .words))
   fits-declare (grammar.array n c) ds s f w h =
       let k = constant-word text s c in
       let x = none-at n _ (none-left _ (of-constant text place s c) h) in
       let t = has-one s c (none-right (at text place n (of-array text place s n c)) _ h) in
-      let y : when (bad-length k) 11 ++ when (too-many s k) 12 ≡ [] = rw t at (none-right (when (is-known (meaning-of text s n)) 9) _ x) in
-      let l = good-length k (none-when (bad-length k) 11 (none-left _ (when (too-many s k) 12) y)) in
-      let r = room s k (none-when (too-many s k) 12 (none-right (when (bad-length k) 11) _ y)) in
+      let y : when (bad-length k) refusal.bad-length ++ when (too-many s k) refusal.too-much ≡ [] = rw t at (none-right (when (is-known (meaning-of text s n)) refusal.declared-twice) _ x) in
+      let l = good-length k (none-when (bad-length k) refusal.bad-length (none-left _ (when (too-many s k) refusal.too-much) y)) in
+      let r = room s k (none-when (too-many s k) refusal.too-much (none-right (when (bad-length k) refusal.bad-length) _ y)) in
       fits-more ds s (text n) (tree.array k) (array (record { row = s .rows; offset = s .words; length = k })) f (r .0) (r .1) (l .0, l .1, tt)
       (declares-last ds (tree.array k) (s .rows) (s .words) (f .rows) (f .words))
   fits-declare (val n c) ds s f w h =
       let x = none-at n _ (none-left _ (of-constant text place s c) h) in
-      let r = room s 0 (none-when (too-many s 0) 12 (none-right (when (is-known (meaning-of text s n)) 9) _ x)) in
+      let r = room s 0 (none-when (too-many s 0) refusal.too-much (none-right (when (is-known (meaning-of text s n)) refusal.declared-twice) _ x)) in
       rw (append-nil ds) (fits-val ds s (text n) (constant-word text s c) f (r .0) (constant-small ds s c f w))
   fits-declare (commented d) ds s f w h = fits-declare d ds s f w h
 

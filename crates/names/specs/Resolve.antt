@@ -15,7 +15,7 @@ abbrev pub monadic-operator : ℕ → tree.Monadic
 monadic-operator o = pick (eqb o kind.minus) tree.negate tree.invert
 
 abbrev pub diadic-operator : ℕ → tree.Diadic
-diadic-operator o = diadic-of (o - 30)
+diadic-operator o = diadic-of (o - kind.operator-base)
 
 -- a name as an operand: a val's use is its constant; what was refused stands for 0
 abbrev pub value : Meaning → tree.Expression

@@ -17,6 +17,8 @@ use Rattle.grammar.specs.Rows.{row, count-expression, count-process, count-proc
 use Rattle.grammar.specs.RowLaws.{length-expression, length-process, length-processes}
 use Rattle.grammar.specs.Moves.{run-skip, run-stop, run-comment, run-target, run-becomes, run-target-subscript, run-target-end, run-element-becomes, run-open, run-empty, run-if, run-then, run-else, run-while, run-do, run-assigned, run-element-assigned, run-opened, run-conditional, run-repeated, run-commented, run-target-stop, run-target-end-stop, run-element-stop, run-then-stop, run-else-stop, run-do-stop, run-close, run-semicolon, run-list-stop}
 use Rattle.grammar.specs.Unread.{inside, unread-name, unread-mark, unread-not, no-process}
+use Rattle.program.specs.Layout.{row-words}
+use Rattle.program.specs.Layout as layout
 use Rattle.expressions.specs.Reads.{Form, Reads, expression-form, closed, deepened, counted-row, tabled, row-of-last, row-of-two}
 use Rattle.expressions.specs.Parts.{table-one, table-two, table-three, closing, close-part}
 use Rattle.expressions.specs.declared.Read.{Read}
@@ -56,25 +58,25 @@ module _ (kinds values : List ℕ) (i n : ℕ) (t : List ℕ) (r : Read) (t′ :
 
 module _ (kinds values : List ℕ) (i n : ℕ) (t : List ℕ) where
   -- one token, or two
-  pub process-skip : (t′ : List ℕ) → getD kinds i 0 ≡ kind.skip → t′ ≡ sets t (4 * n) (row 8 0 0 0) → Reads process-form kinds values i n t (Done (i + 1) (n + 1) 1 0) t′
+  pub process-skip : (t′ : List ℕ) → getD kinds i 0 ≡ kind.skip → t′ ≡ sets t (row-words * n) (row layout.skip 0 0 0) → Reads process-form kinds values i n t (Done (i + 1) (n + 1) 1 0) t′
   unfolding count-process rows-process
   process-skip t′ e h =
       let l = inside kinds i kind.skip e (omega arith) in
       (record { short = omega arith; grew = omega arith; few = omega arith; shallow = omega arith; low = omega arith }, record { tree = skip; counted = refl; table = h; depths = refl; deepests = refl; comes = λ k. rw (unread-mark kinds values i kind.skip e (omega arith)) (run-skip _ k) })
 
-  pub process-stop : (t′ : List ℕ) → getD kinds i 0 ≡ kind.stop → t′ ≡ sets t (4 * n) (row 9 0 0 0) → Reads process-form kinds values i n t (Done (i + 1) (n + 1) 1 0) t′
+  pub process-stop : (t′ : List ℕ) → getD kinds i 0 ≡ kind.stop → t′ ≡ sets t (row-words * n) (row layout.stop 0 0 0) → Reads process-form kinds values i n t (Done (i + 1) (n + 1) 1 0) t′
   unfolding count-process rows-process
   process-stop t′ e h =
       let l = inside kinds i kind.stop e (omega arith) in
       (record { short = omega arith; grew = omega arith; few = omega arith; shallow = omega arith; low = omega arith }, record { tree = stop; counted = refl; table = h; depths = refl; deepests = refl; comes = λ k. rw (unread-mark kinds values i kind.stop e (omega arith)) (run-stop _ k) })
 
-  pub process-empty : (t′ : List ℕ) → getD kinds i 0 ≡ kind.open-brace → getD kinds (i + 1) 0 ≡ kind.close-brace → t′ ≡ sets t (4 * n) (row 8 0 0 0) → Reads process-form kinds values i n t (Done (i + 2) (n + 1) 1 0) t′
+  pub process-empty : (t′ : List ℕ) → getD kinds i 0 ≡ kind.open-brace → getD kinds (i + 1) 0 ≡ kind.close-brace → t′ ≡ sets t (row-words * n) (row layout.skip 0 0 0) → Reads process-form kinds values i n t (Done (i + 2) (n + 1) 1 0) t′
   unfolding count-process rows-process
   process-empty t′ e f h =
       let l = inside kinds (i + 1) kind.close-brace f (omega arith) in
       (record { short = omega arith; grew = omega arith; few = omega arith; shallow = omega arith; low = omega arith }, record { tree = empty; counted = refl; table = h; depths = refl; deepests = refl; comes = λ k. rw (unread-mark kinds values i kind.open-brace e (omega arith)) (run-open _ k ∙ rw (unread-mark kinds values (i + 1) kind.close-brace f (omega arith)) (run-empty _ k ∙ ap (λ (x : ℕ). run (unread kinds values x) (have-process empty k)) (omega arith))) })
 
-  pub process-none : i ≤ length kinds → (t′ : List ℕ) → ¬ (getD kinds i 0 ≡ kind.skip) → ¬ (getD kinds i 0 ≡ kind.stop) → ¬ (getD kinds i 0 ≡ 2) → ¬ (getD kinds i 0 ≡ kind.open-brace) → ¬ (getD kinds i 0 ≡ kind.if) → ¬ (getD kinds i 0 ≡ kind.while) → ¬ (getD kinds i 0 ≡ kind.comment) → Reads process-form kinds values i n t (Bad i) t′
+  pub process-none : i ≤ length kinds → (t′ : List ℕ) → ¬ (getD kinds i 0 ≡ kind.skip) → ¬ (getD kinds i 0 ≡ kind.stop) → ¬ (getD kinds i 0 ≡ kind.name) → ¬ (getD kinds i 0 ≡ kind.open-brace) → ¬ (getD kinds i 0 ≡ kind.if) → ¬ (getD kinds i 0 ≡ kind.while) → ¬ (getD kinds i 0 ≡ kind.comment) → Reads process-form kinds values i n t (Bad i) t′
   process-none l t′ a b c d e f g = (l, λ k. no-process kinds values i k a b c d e f g)
 
   -- a comment adds nothing
@@ -89,10 +91,10 @@ module _ (kinds values : List ℕ) (i n : ℕ) (t : List ℕ) where
   process-comment (Bad x) t′ e h = (h .0, λ k. into-comment e k ∙ h .1 (in-comment k))
 
   -- assignments
-  into-assign : getD kinds i 0 ≡ 2 → getD kinds (i + 1) 0 ≡ kind.becomes → (k : ProcessContext) → run (unread kinds values i) (need-process k) ≡ run (unread kinds values (i + 2)) (need-expression (in-assign i k))
+  into-assign : getD kinds i 0 ≡ kind.name → getD kinds (i + 1) 0 ≡ kind.becomes → (k : ProcessContext) → run (unread kinds values i) (need-process k) ≡ run (unread kinds values (i + 2)) (need-expression (in-assign i k))
   into-assign e f k = rw (unread-name kinds values i e) (run-target _ k i ∙ rw (unread-mark kinds values (i + 1) kind.becomes f (omega arith)) (run-becomes _ k i ∙ ap (λ (x : ℕ). run (unread kinds values x) (need-expression (in-assign i k))) (omega arith)))
 
-  pub process-assign : (r : Read) (t′ : List ℕ) → getD kinds i 0 ≡ 2 → getD kinds (i + 1) 0 ≡ kind.becomes → Reads expression-form kinds values (i + 2) n t r t′ → Reads process-form kinds values i n t (deepened (counted-row r) 0 0 1 0) (tabled t′ r (row-of-last 10 i))
+  pub process-assign : (r : Read) (t′ : List ℕ) → getD kinds i 0 ≡ kind.name → getD kinds (i + 1) 0 ≡ kind.becomes → Reads expression-form kinds values (i + 2) n t r t′ → Reads process-form kinds values i n t (deepened (counted-row r) 0 0 1 0) (tabled t′ r (row-of-last layout.assign i))
   unfolding count-process rows-process
   process-assign (Done j m p d) t′ e f h =
       let w = h .0 in
@@ -111,19 +113,19 @@ module _ (kinds values : List ℕ) (i n : ℕ) (t : List ℕ) where
       )
   process-assign (Bad x) t′ e f h = (h .0, λ k. into-assign e f k ∙ h .1 (in-assign i k))
 
-  pub process-assign-stop : (t′ : List ℕ) → getD kinds i 0 ≡ 2 → ¬ (getD kinds (i + 1) 0 ≡ kind.becomes) → ¬ (getD kinds (i + 1) 0 ≡ kind.open-subscript) → Reads process-form kinds values i n t (Bad (i + 1)) t′
+  pub process-assign-stop : (t′ : List ℕ) → getD kinds i 0 ≡ kind.name → ¬ (getD kinds (i + 1) 0 ≡ kind.becomes) → ¬ (getD kinds (i + 1) 0 ≡ kind.open-subscript) → Reads process-form kinds values i n t (Bad (i + 1)) t′
   process-assign-stop t′ e z y =
-      let l = inside kinds i 2 e (omega arith) in
+      let l = inside kinds i kind.name e (omega arith) in
       (omega arith, λ k. rw (unread-name kinds values i e) (run-target _ k i ∙ run-target-stop k _ i (unread-not kinds values (i + 1) kind.becomes (omega arith) z) (unread-not kinds values (i + 1) kind.open-subscript (omega arith) y)))
 
-  module _ (e : getD kinds i 0 ≡ 2) (f : getD kinds (i + 1) 0 ≡ kind.open-subscript) where
+  module _ (e : getD kinds i 0 ≡ kind.name) (f : getD kinds (i + 1) 0 ≡ kind.open-subscript) where
     into-target : (k : ProcessContext) → run (unread kinds values i) (need-process k) ≡ run (unread kinds values (i + 2)) (need-expression (in-target i k))
     into-target k = rw (unread-name kinds values i e) (run-target _ k i ∙ rw (unread-mark kinds values (i + 1) kind.open-subscript f (omega arith)) (run-target-subscript _ k i ∙ ap (λ (x : ℕ). run (unread kinds values x) (need-expression (in-target i k))) (omega arith)))
 
     pub element-bad : (x : ℕ) (t′ : List ℕ) → Reads (target-form i) kinds values (i + 2) n t (Bad x) t′ → Reads process-form kinds values i n t (Bad x) t′
     element-bad x t′ h = (h .0, λ k. into-target k ∙ h .1 k)
 
-    pub process-assign-element : (j m p d : ℕ) (t′ : List ℕ) → Reads (target-form i) kinds values (i + 2) n t (Done j m p d) t′ → (r : Read) (t″ : List ℕ) → Reads expression-form kinds values j m t′ r t″ → Reads process-form kinds values i n t (deepened (counted-row r) 0 (d + 1) 1 0) (tabled t″ r (row-of-two 11 i (m - 1)))
+    pub process-assign-element : (j m p d : ℕ) (t′ : List ℕ) → Reads (target-form i) kinds values (i + 2) n t (Done j m p d) t′ → (r : Read) (t″ : List ℕ) → Reads expression-form kinds values j m t′ r t″ → Reads process-form kinds values i n t (deepened (counted-row r) 0 (d + 1) 1 0) (tabled t″ r (row-of-two layout.assign-element i (m - 1)))
     unfolding count-process rows-process
     process-assign-element j m p d t′ h (Done k l a b) t″ g =
         let w = h .0 in
@@ -172,7 +174,7 @@ module _ (kinds values : List ℕ) (i n : ℕ) (t : List ℕ) where
     pub list-stop : ¬ (getD kinds j 0 ≡ kind.semicolon) → ¬ (getD kinds j 0 ≡ kind.close-brace) → Reads list-form kinds values i n t (Bad j) t′
     list-stop a b = (h .0 .short, λ k. h .1 .comes (in-braces k) ∙ run-list-stop (h .1 .tree) k _ (unread-not kinds values j kind.semicolon (omega arith) a) (unread-not kinds values j kind.close-brace (omega arith) b))
 
-    pub list-more : (r : Read) (t″ : List ℕ) → getD kinds j 0 ≡ kind.semicolon → Reads list-form kinds values (j + 1) m t′ r t″ → Reads list-form kinds values i n t (deepened (counted-row r) p d 0 0) (tabled t″ r (row-of-last 12 (m - 1)))
+    pub list-more : (r : Read) (t″ : List ℕ) → getD kinds j 0 ≡ kind.semicolon → Reads list-form kinds values (j + 1) m t′ r t″ → Reads list-form kinds values i n t (deepened (counted-row r) p d 0 0) (tabled t″ r (row-of-last layout.sequence (m - 1)))
     unfolding count-processes rows-processes
     list-more (Done k l a b) t″ e g =
         let w = h .0 in
@@ -203,7 +205,7 @@ module _ (kinds values : List ℕ) (i n : ℕ) (t : List ℕ) where
     pub while-bad : (x : ℕ) (t′ : List ℕ) → Reads while-form kinds values (i + 1) n t (Bad x) t′ → Reads process-form kinds values i n t (Bad x) t′
     while-bad x t′ h = (h .0, λ k. into-while k ∙ h .1 k)
 
-    pub process-while : (j m p d : ℕ) (t′ : List ℕ) → Reads while-form kinds values (i + 1) n t (Done j m p d) t′ → (r : Read) (t″ : List ℕ) → Reads process-form kinds values j m t′ r t″ → Reads process-form kinds values i n t (deepened (counted-row r) 0 d 1 0) (tabled t″ r (row-of-last 14 (m - 1)))
+    pub process-while : (j m p d : ℕ) (t′ : List ℕ) → Reads while-form kinds values (i + 1) n t (Done j m p d) t′ → (r : Read) (t″ : List ℕ) → Reads process-form kinds values j m t′ r t″ → Reads process-form kinds values i n t (deepened (counted-row r) 0 d 1 0) (tabled t″ r (row-of-last layout.while (m - 1)))
     unfolding count-process rows-process
     process-while j m p d t′ h (Done k l a b) t″ g =
         let w = h .0 in
@@ -237,7 +239,7 @@ module _ (kinds values : List ℕ) (i n : ℕ) (t : List ℕ) where
       pub then-bad : (x : ℕ) (t₂ : List ℕ) → Reads (then-form (h .1 .tree)) kinds values j m t₁ (Bad x) t₂ → Reads process-form kinds values i n t (Bad x) t₂
       then-bad x t₂ g = (g .0, λ k. into-if k ∙ h .1 .comes k ∙ g .1 k)
 
-      pub process-if : (k l p₁ d₁ : ℕ) (t₂ : List ℕ) → Reads (then-form (h .1 .tree)) kinds values j m t₁ (Done k l p₁ d₁) t₂ → (r : Read) (t₃ : List ℕ) → Reads process-form kinds values k l t₂ r t₃ → Reads process-form kinds values i n t (deepened (counted-row r) p₁ (max d d₁) 1 0) (tabled t₃ r (row-of-two 13 (m - 1) (l - 1)))
+      pub process-if : (k l p₁ d₁ : ℕ) (t₂ : List ℕ) → Reads (then-form (h .1 .tree)) kinds values j m t₁ (Done k l p₁ d₁) t₂ → (r : Read) (t₃ : List ℕ) → Reads process-form kinds values k l t₂ r t₃ → Reads process-form kinds values i n t (deepened (counted-row r) p₁ (max d d₁) 1 0) (tabled t₃ r (row-of-two layout.if (m - 1) (l - 1)))
       unfolding count-process rows-process
       process-if k l p₁ d₁ t₂ g (Done a b p₂ d₂) t₃ z =
           let w = h .0 in

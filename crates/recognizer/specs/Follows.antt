@@ -17,11 +17,12 @@ use Rattle.grammar.specs.Tokens.{token-of}
 use Rattle.grammar.specs.Unread.{token-case, at-is}
 use Rattle.recognizer.specs.declared.Frame.{Frame}
 use Rattle.recognizer.specs.declared.Action.{Action}
+use Rattle.recognizer.specs.Modes as mode
 use Rattle.recognizer.specs.Pushdown.{frame, braces-open, at, counted, level-process, level-list, level-expression, level-operand, level-chain, operator-before, frames-process, frames-list, frames-expression, frames-operand, frames-chain, mode-partial, configuration, after-process, after-expression, links, after-operand, start-operand, start-expression, start-process, specify, innermost, act, doing, complete}
 
 -- an action is the automaton's move, where the stack is s
 abbrev pub Agrees : Move → Action → List Frame → Type 0
-Agrees none a s = a .mode ≡ 19
+Agrees none a s = a .mode ≡ mode.refused
 Agrees (go q) a s = act a s ≡ configuration q
 
 -- the same either way; and with the same test by another name
@@ -114,27 +115,27 @@ ends-operand (next o c) a i k v = ends-next (token-of i k v) k (λ m h. at-is m 
 starts-operand : (c : OperandContext) (i k v : ℕ) → Agrees (step-operand (token-of i k v) c) (start-operand (operator-before c) (counted (level-operand c)) k) (frames-operand c)
 starts-operand c i k v =
     token-case (λ k t. Agrees (step-operand t c) (start-operand (operator-before c) (counted (level-operand c)) k) (frames-operand c)) i k v refl refl
-    (λ y z. rw (ne-eqb k 1 y, ne-eqb k 2 z) (keep _ (eqb k kind.open-bracket) _ _ _ _ refl refl))
+    (λ y z. rw (ne-eqb k kind.number y, ne-eqb k kind.name z) (keep _ (eqb k kind.open-bracket) _ _ _ _ refl refl))
 
 starts-expression : (c : ExpressionContext) (i k v : ℕ) → Agrees (step-expression (token-of i k v) c) (start-expression (counted (level-expression c)) k) (frames-expression c)
 starts-expression c i k v =
     token-case (λ k t. Agrees (step-expression t c) (start-expression (counted (level-expression c)) k) (frames-expression c)) i k v refl refl
-    (λ y z. rw (ne-eqb k 1 y, ne-eqb k 2 z) (keep _ (is-monadic k) _ _ _ _ refl (keep _ (eqb k kind.open-bracket) _ _ _ _ refl refl)))
+    (λ y z. rw (ne-eqb k kind.number y, ne-eqb k kind.name z) (keep _ (is-monadic k) _ _ _ _ refl (keep _ (eqb k kind.open-bracket) _ _ _ _ refl refl)))
 
 starts-process : (c : ProcessContext) (i k v : ℕ) → Agrees (step-process (token-of i k v) c) (start-process (counted (level-process c)) k) (frames-process c)
 starts-process c i k v =
     token-case (λ k t. Agrees (step-process t c) (start-process (counted (level-process c)) k) (frames-process c)) i k v refl refl
-    (λ y z. rw (ne-eqb k 2 z) (keep _ (eqb k kind.skip) _ _ _ _ refl (keep _ (eqb k kind.stop) _ _ _ _ refl (keep _ (eqb k kind.open-brace) _ _ _ _ refl (keep _ (eqb k kind.if) _ _ _ _ refl (keep _ (eqb k kind.while) _ _ _ _ refl (keep _ (eqb k kind.comment) _ _ _ _ refl refl)))))))
+    (λ y z. rw (ne-eqb k kind.name z) (keep _ (eqb k kind.skip) _ _ _ _ refl (keep _ (eqb k kind.stop) _ _ _ _ refl (keep _ (eqb k kind.open-brace) _ _ _ _ refl (keep _ (eqb k kind.if) _ _ _ _ refl (keep _ (eqb k kind.while) _ _ _ _ refl (keep _ (eqb k kind.comment) _ _ _ _ refl refl)))))))
 
 specifies : (b : List Specification) (n : ℕ) (x : Partial) (i k v : ℕ) → Agrees (step-partial b n x (token-of i k v)) (specify (mode-partial x) k) []
-specifies b n var-read i k v = token-case (λ k t. Agrees (step-partial b n var-read t) (specify 1 k) []) i k v refl refl (λ y z. rw (ne-eqb k 2 z) refl)
-specifies b n array-read i k v = token-case (λ k t. Agrees (step-partial b n array-read t) (specify 2 k) []) i k v refl refl (λ y z. rw (ne-eqb k 2 z) refl)
+specifies b n var-read i k v = token-case (λ k t. Agrees (step-partial b n var-read t) (specify mode.var-read k) []) i k v refl refl (λ y z. rw (ne-eqb k kind.name z) refl)
+specifies b n array-read i k v = token-case (λ k t. Agrees (step-partial b n array-read t) (specify mode.array-read k) []) i k v refl refl (λ y z. rw (ne-eqb k kind.name z) refl)
 specifies b n (array-named x) i k v = either-name _ _ _ _ _ _ _ (at-is kind.open-subscript i k v (omega arith)) refl refl
-specifies b n (array-opened x) i k v = token-case (λ k t. Agrees (step-partial b n (array-opened x) t) (specify 4 k) []) i k v refl refl (λ y z. rw (ne-eqb k 1 y, ne-eqb k 2 z) refl)
+specifies b n (array-opened x) i k v = token-case (λ k t. Agrees (step-partial b n (array-opened x) t) (specify mode.array-opened k) []) i k v refl refl (λ y z. rw (ne-eqb k kind.number y, ne-eqb k kind.name z) refl)
 specifies b n (array-sized x c) i k v = either-name _ _ _ _ _ _ _ (at-is kind.close-subscript i k v (omega arith)) refl refl
-specifies b n val-read i k v = token-case (λ k t. Agrees (step-partial b n val-read t) (specify 6 k) []) i k v refl refl (λ y z. rw (ne-eqb k 2 z) refl)
+specifies b n val-read i k v = token-case (λ k t. Agrees (step-partial b n val-read t) (specify mode.val-read k) []) i k v refl refl (λ y z. rw (ne-eqb k kind.name z) refl)
 specifies b n (val-named x) i k v = either-name _ _ _ _ _ _ _ (at-is kind.equal i k v (omega arith)) refl refl
-specifies b n (val-equated x) i k v = token-case (λ k t. Agrees (step-partial b n (val-equated x) t) (specify 8 k) []) i k v refl refl (λ y z. rw (ne-eqb k 1 y, ne-eqb k 2 z) refl)
+specifies b n (val-equated x) i k v = token-case (λ k t. Agrees (step-partial b n (val-equated x) t) (specify mode.val-equated k) []) i k v refl refl (λ y z. rw (ne-eqb k kind.number y, ne-eqb k kind.name z) refl)
 specifies b n (whole s) i k v = either-name _ _ _ _ _ _ _ (at-is kind.semicolon i k v (omega arith)) refl refl
 
 -- comments before the process stand in no frame

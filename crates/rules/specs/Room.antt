@@ -6,6 +6,7 @@ use native.Mathlib.Omega.{arith}
 use lib.ListN.{length, length-append}
 use lib.Dec.{eqb, ltb}
 use Rattle.word.specs.Choice.{pick}
+use Rattle.program.specs.Layout.{code-room}
 use Rattle.thumb.specs.Code.{encodeOf}
 use Rattle.thumb.specs.Bytes.{halfword-bytes, encoded-bytes}
 use Rattle.thumb.specs.declared.Instr.{Instr}
@@ -117,7 +118,7 @@ mutual
   list-room (tree.also p ps) = rw (list-code p ps) (simp length-append (omega (arith, process-room p, list-room ps)))
 
 -- The image: "inside 48 x tokens + 256 bytes"
-pub image-room : (p : tree.Program) → length (image p) ≤ 48 * process-tokens (p .body) + 256
+pub image-room : (p : tree.Program) → length (image p) ≤ code-room (process-tokens (p .body))
 unfolding image image-code size
 image-room p =
     let c = process-code (core-process (p .body)) in

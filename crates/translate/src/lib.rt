@@ -5,11 +5,13 @@ use buffers::clear_bytes;
 use buffers::clear_words;
 use buffers::copy_words;
 use generate::image;
+use program::row;
 ghost use mathlib.Core.Path.{_≡_};
 ghost use mathlib.Core.List.{List};
 ghost use Prim.Native.Nat.{ℕ, _-_, _*_, _<_, _≤_};
 ghost use lib.ListN.{length};
 ghost use Rattle.program.specs.Tree as tree;
+ghost use Rattle.program.specs.Layout.{«row-words»};
 ghost use Rattle.program.specs.Rows.{«table-of», «row-count»};
 ghost use Rattle.program.specs.ReadBack.{Holds};
 ghost use Rattle.program.specs.Sound.{Sound};
@@ -51,11 +53,11 @@ fn refuse(table: &mut [u32], code: &mut [u8], number: u32, place: u32) -> Transl
 
 // The first rows into the lent table, the rest of which is zeroed.
 fn fill_table(rows: &[u32], count: usize, table: &mut [u32])
-    requires { ⌜ (count ≤ 1024) × ((4 * count ≤ length (now rows)) × (4 * count ≤ length (now table))) ⌝ }
-    ensures { λ _. ⌜ ((xs : List ℕ) → length xs ≡ 4 * count → Holds (now (rows .entry)) 0 xs → now (table .exit) ≡ filled (length (now (table .entry))) xs) ⌝ }
+    requires { ⌜ (count ≤ 1024) × ((«row-words» * count ≤ length (now rows)) × («row-words» * count ≤ length (now table))) ⌝ }
+    ensures { λ _. ⌜ ((xs : List ℕ) → length xs ≡ «row-words» * count → Holds (now (rows .entry)) 0 xs → now (table .exit) ≡ filled (length (now (table .entry))) xs) ⌝ }
 {
-    copy_words(rows, table, 4 * count);
-    clear_words(table, 4 * count);
+    copy_words(rows, table, row::WORDS * count);
+    clear_words(table, row::WORDS * count);
 }
 
 // The image of the rows into the lent code buffer, the rest of which is zeroed.

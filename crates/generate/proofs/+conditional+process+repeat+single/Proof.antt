@@ -3,6 +3,7 @@
 use mathlib.Core.Path.{_≡_}
 use Prim.Native.Nat.{_+_, _*_}
 use native.Mathlib.Omega.{arith}
+use Rattle.program.specs.Layout as layout
 use Rattle.rules.specs.Code.{choice-code, repeat-code}
 use Rattle.instructions.specs.Write.{first, rest, kept, none}
 use Rattle.emit.specs.Jumps.{then-room, then-ahead, else-room, else-ahead, choice-wrote, body-room, body-ahead, back-room, repeat-wrote}
@@ -91,7 +92,7 @@ abbrev μ-loop : process-lts.MeasureT-loop
 μ-loop table code₀ r at row₀ to₀ w₀ code row to w = row
 
 -- past the other kinds only the loop is left
-last-kind : (t : ℕ) (c : single-lts.Else5 (single-calls t) (single-at t) single.Post) → c .before .before .before .before .before .read-row .result .kind ≡ 14
+last-kind : (t : ℕ) (c : single-lts.Else5 (single-calls t) (single-at t) single.Post) → c .before .before .before .before .before .read-row .result .kind ≡ layout.while
 last-kind t c =
     let h = c .before .before .before .before .before .before .before .before .pre .1 .0 .0 in
     let e = c .before .before .before .before .before .read-row .ensures in

@@ -4,6 +4,7 @@ use borrow.Author.Needs.{needs}
 use mathlib.Core.Path.{sym, _∙_}
 use Prim.Native.Nat.{_-_}
 use lib.ListN.{length}
+use Rattle.spelling.specs.Kinds as kind
 use Rattle.grammar.specs.Unread.{inside}
 use Rattle.processes.specs.Forms.{Comments}
 use Rattle.processes.specs.Processes.{comments-none, comments-more}
@@ -25,7 +26,7 @@ past-comments-spec =
     μ-loop
     (λ c. comments-none _ _ (c .before .pre))
     (λ c κs. search needs)
-    (λ c. let l = inside (c .before .before .before .before .args .kinds .now) (c .before .before .loop .j) 3 (sym (c .before .kind-at .ensures) ∙ c .if1 .taken) (omega arith) in omega (arith, c .before .before .before .before .good))
-    (λ c. let l = inside (c .before .before .before .before .args .kinds .now) (c .before .before .loop .j) 3 (sym (c .before .kind-at .ensures) ∙ c .if1 .taken) (omega arith) in omega arith)
+    (λ c. let l = inside (c .before .before .before .before .args .kinds .now) (c .before .before .loop .j) kind.comment (sym (c .before .kind-at .ensures) ∙ c .if1 .taken) (omega arith) in omega (arith, c .before .before .before .before .good))
+    (λ c. let l = inside (c .before .before .before .before .args .kinds .now) (c .before .before .loop .j) kind.comment (sym (c .before .kind-at .ensures) ∙ c .if1 .taken) (omega arith) in omega arith)
     (λ c. comments-more _ _ _ (c .before .before .loop .inv) (sym (c .before .kind-at .ensures) ∙ c .if1 .taken))
     (λ c. (c .before .before .loop .inv, λ e. c .if1 .left (c .before .kind-at .ensures ∙ e))))

@@ -2,6 +2,7 @@
 -- Assumes nothing.
 use mathlib.Core.Path.{_≡_}
 use native.Mathlib.Omega.{arith}
+use Rattle.program.specs.Layout as layout
 use Rattle.instructions.specs.Write.{first, rest, then, kept}
 use Rattle.values.specs.Walk.{named, declared, offset-small, kind-from, kind-to, constant-code, variable-names, variable-code, element-names, element-code, monadic-names, monadic-code, diadic-names, diadic-code}
 use Prim.Native.Nat.{ℕ, _<_}
@@ -35,7 +36,7 @@ abbrev expression-calls : ℕ → expression-lts.Claims
 expression-calls t = (read-row-reads.Asked, read-row-reads.Learnt, push-constant-reads.Asked, push-constant-reads.Learnt, push-variable-reads.Asked, push-variable-reads.Learnt, expression-below t, expression.Post, check-subscript-reads.Asked, check-subscript-reads.Learnt, load-element-reads.Asked, load-element-reads.Learnt, monadic-reads.Asked, monadic-reads.Learnt, diadic-reads.Asked, diadic-reads.Learnt)
 
 -- past the other kinds only the diadic one is left
-last-kind : (t : ℕ) (c : expression-lts.Else4 (expression-calls t) (expression-at t) expression.Post) → c .before .before .before .before .read-row .result .kind ≡ 7
+last-kind : (t : ℕ) (c : expression-lts.Else4 (expression-calls t) (expression-at t) expression.Post) → c .before .before .before .before .read-row .result .kind ≡ layout.diadic
 last-kind t c =
     let h = c .before .before .before .before .before .before .before .pre .1 .0 in
     let e = c .before .before .before .before .read-row .ensures in
