@@ -45,7 +45,8 @@ holds-set t xs n l = record {
       let e = length-take-le (row-words * n) t (omega arith) in
       let z : row-words * n + k ≡ length (take (row-words * n) t) + k = omega (arith, e) in
       rw (sets-eq xs t (row-words * n) l, z)
-      (List·getD-append (take (row-words * n) t ++ xs) (drop (row-words * n + length xs) t) 0 (length (take (row-words * n) t) + k) (rw (length-append (take (row-words * n) t) xs) (omega arith)) ∙ getD-append-add (take (row-words * n) t) xs k 0);
+      (List·getD-append (take (row-words * n) t ++ xs) (drop (row-words * n + length xs) t) 0 (length (take (row-words * n) t) + k)
+      (rw (length-append (take (row-words * n) t) xs) (omega arith)) ∙ getD-append-add (take (row-words * n) t) xs k 0);
 }
 
 holds-after : (t xs ds : List ℕ) (n : ℕ) → length ds ≤ row-words * n → Holds t n xs → Holds (sets t 0 ds) n xs
@@ -143,17 +144,28 @@ module _ (source kinds places values : List ℕ) where
             words-are = sym (ap (λ (s : Scope). s .words) (filled .scope)) ∙ words-declared text ss empty-scope ∙ omega arith;
             depth-is = ready .depth-is ∙ same-deepest text place p none;
             table = rw s (holds-set t (D ++ rows-process (core-process (resolve.process text b S)) (length (declarations text ss empty-scope))) 0
-                (simp length-append (omega (arith, ready .room, ready .few, ready .rows-are, filled .sized, made-is, length-rows-process (core-process (resolve.process text b S)) (length (declarations text ss empty-scope)), k))));
+                (simp length-append (omega (
+                  arith,
+                  ready .room,
+                  ready .few,
+                  ready .rows-are,
+                  filled .sized,
+                  made-is,
+                  length-rows-process (core-process (resolve.process text b S)) (length (declarations text ss empty-scope)),
+                  k,
+                ))));
           }
 
   -- what `bind` ensures of its answer
   abbrev pub Bound : ℕ → List ℕ → List ℕ → Table → Progress → Type 0
   Bound start t t₁ names r =
-      (ds : List Specification) (b : Process) → unread kinds values 0 ≡ text-specifications ds (text-process b []) → start ≡ length kinds - length (text-process b []) → Fills source kinds places values ds t t₁ names r
+      (ds : List Specification) (b : Process) → unread kinds values 0 ≡ text-specifications ds (text-process b []) → start ≡ length kinds - length (text-process b [])
+      → Fills source kinds places values ds t t₁ names r
 
   module _ (p : Program) (start rows depth : ℕ) (t : List ℕ) (ready : Ready p start rows depth t) where
     pub names-refused : (n q : ℕ)
-        → ((ds : List Specification) (b : Process) → unread kinds values 0 ≡ text-specifications ds (text-process b []) → start ≡ length kinds - length (text-process b []) → first (of-specifications text place ds empty-scope) ≡ refused (record { number = n; place = q }))
+        → ((ds : List Specification) (b : Process) → unread kinds values 0 ≡ text-specifications ds (text-process b []) → start ≡ length kinds - length (text-process b [])
+        → first (of-specifications text place ds empty-scope) ≡ refused (record { number = n; place = q }))
         → named-as p ≡ front.refused n q
     names-refused n q h = by p ready
       where

@@ -51,7 +51,8 @@ fn names(
     depth: usize,
 ) -> Analysis
     requires { ⌜ (start ≤ 1024) × (rows ≤ 1024) ⌝ }
-    ensures { λ r. ⌜ ((p : grammar.Program) → Ready (now (source .entry)) (now (kinds .entry)) (now (places .entry)) (now (values .entry)) p start rows depth (now (table .entry)) → Analysed («named-as» (now (source .entry)) (now (kinds .entry)) (now (places .entry)) (now (values .entry)) p) (now (table .exit)) r) ⌝ }
+    ensures { λ r. ⌜ ((p : grammar.Program) → Ready (now (source .entry)) (now (kinds .entry)) (now (places .entry)) (now (values .entry)) p start rows depth (now (table .entry))
+        → Analysed («named-as» (now (source .entry)) (now (kinds .entry)) (now (places .entry)) (now (values .entry)) p) (now (table .exit)) r) ⌝ }
 {
     let mut name_places: [u32; 256] = [0; 256];
     let mut name_lengths: [u32; 256] = [0; 256];
@@ -119,7 +120,10 @@ fn read(
     values: &[u32],
     table: &mut [u32; 4096],
 ) -> Analysis
-    requires { ⌜ (length (now source) ≤ 16384) × ((length (now kinds) ≤ 1024) × ((length (now places) ≡ length (now kinds)) × ((length (now values) ≡ length (now kinds)) × ((length (now table) ≡ 4096) × Bounded (reads (unread (now kinds) (now values) 0)))))) ⌝ }
+    requires { ⌜ (length (now source) ≤ 16384)
+        × ((length (now kinds) ≤ 1024)
+        × ((length (now places) ≡ length (now kinds))
+        × ((length (now values) ≡ length (now kinds)) × ((length (now table) ≡ 4096) × Bounded (reads (unread (now kinds) (now values) 0)))))) ⌝ }
     ensures { λ r. ⌜ Parses (now (source .entry)) (scanned.entries (now (kinds .entry)) (now (places .entry)) (now (values .entry)) 0 (length (now (kinds .entry)))) (now (table .exit)) r ⌝ }
 {
     let a = program(kinds, values, table);
@@ -150,7 +154,8 @@ fn parse(
     values: &[u32],
     table: &mut [u32; 4096],
 ) -> Analysis
-    requires { ⌜ (length (now source) ≤ 16384) × ((length (now kinds) ≤ 1024) × ((length (now places) ≡ length (now kinds)) × ((length (now values) ≡ length (now kinds)) × (length (now table) ≡ 4096)))) ⌝ }
+    requires { ⌜ (length (now source) ≤ 16384)
+        × ((length (now kinds) ≤ 1024) × ((length (now places) ≡ length (now kinds)) × ((length (now values) ≡ length (now kinds)) × (length (now table) ≡ 4096)))) ⌝ }
     ensures { λ r. ⌜ Parses (now (source .entry)) (scanned.entries (now (kinds .entry)) (now (places .entry)) (now (values .entry)) 0 (length (now (kinds .entry)))) (now (table .exit)) r ⌝ }
 {
     match recognize(kinds, table) {

@@ -26,7 +26,8 @@ use Rattle.expressions.specs.Parts.{table-one}
 use Rattle.name_table.specs.Sorts as name-sort
 use Rattle.name_table.specs.View.{Table, view, meant, by-sort, text-at, place-at}
 use Rattle.name_table.specs.View as views
-use Rattle.judging.specs.Judge.{verdict-of, or-else, first-append, listed, over, constant-read, constant-at, complaints-by, item-of, item-row, specification-at, width, specified-complaints, specified-scope, specified-rows}
+use Rattle.judging.specs.Judge.{verdict-of, or-else, first-append, listed, over, constant-read, constant-at, complaints-by, item-of, item-row, specification-at, width, specified-complaints}
+use Rattle.judging.specs.Judge.{specified-scope, specified-rows}
 use Rattle.binding.specs.Here.{specification-here, comment-here, none-left, some-left}
 use Rattle.name_table.specs.declared.Meaning as found
 use Rattle.judging.specs.declared.Verdict as code
@@ -56,7 +57,8 @@ not-when : (b : Bool) (n : ℕ) → when b n ≡ [] → b ≡ false
 not-when true n e = let z : _≡_ {A = ℕ} 0 1 = cc in absurd (omega arith)
 not-when false n e = refl
 
-pub room : (k : ℕ) (m : Meaning) (status word names words rows p q : ℕ) → first (complaints-by k m status word names words p q) ≡ fine → (names ≤ 255) × (words + item-of k word rows words .words ≤ 8192) × (item-of k word rows words .rows ≤ 1)
+pub room : (k : ℕ) (m : Meaning) (status word names words rows p q : ℕ) → first (complaints-by k m status word names words p q) ≡ fine
+    → (names ≤ 255) × (words + item-of k word rows words .words ≤ 8192) × (item-of k word rows words .rows ≤ 1)
 unfolding complaints-by item-of
 room k m status word names words rows p q = by (eqb k kind.var) (eqb k kind.array) (eqb status 0)
   where
@@ -75,12 +77,14 @@ room k m status word names words rows p q = by (eqb k kind.var) (eqb k kind.arra
     it : Bool → Bool → Item
     it a b =
         pick a (record { sort = name-sort.var; row = rows; word = words; size = 1; rows = 1; words = 1 })
-        (pick b (record { sort = name-sort.array; row = rows; word = words; size = word; rows = 1; words = word }) (record { sort = name-sort.val; row = 0; word = word; size = 0; rows = 0; words = 0 }))
+        (pick b (record { sort = name-sort.array; row = rows; word = words; size = word; rows = 1; words = word })
+        (record { sort = name-sort.val; row = 0; word = word; size = 0; rows = 0; words = 0 }))
 
     has : (more : ℕ) → known ++ full more ≡ [] → (names ≤ 255) × (words + more ≤ 8192)
     has more e = room-over names words more (not-when (over names words more) refusal.too-much (none-right known (full more) e))
 
-    by : (a b c : Bool) → first (pick a (listed p (known ++ full 1)) (pick b (listed p (array-numbers c) ++ rest c) (listed p (known ++ full 0) ++ rest c))) ≡ fine → (names ≤ 255) × (words + it a b .words ≤ 8192) × (it a b .rows ≤ 1)
+    by : (a b c : Bool) → first (pick a (listed p (known ++ full 1)) (pick b (listed p (array-numbers c) ++ rest c) (listed p (known ++ full 0) ++ rest c))) ≡ fine
+        → (names ≤ 255) × (words + it a b .words ≤ 8192) × (it a b .rows ≤ 1)
     by true b c e = let r = has 1 (listed-none p (known ++ full 1) e) in (r .0, r .1, omega arith)
     by false true true e =
         let x = listed-none p (array-numbers true) (quiet (listed p (array-numbers true)) (rest true) e .0) in
@@ -101,7 +105,8 @@ item-sized k word rows words = by (eqb k kind.var) (eqb k kind.array)
     it : Bool → Bool → Item
     it a b =
         pick a (record { sort = name-sort.var; row = rows; word = words; size = 1; rows = 1; words = 1 })
-        (pick b (record { sort = name-sort.array; row = rows; word = words; size = word; rows = 1; words = word }) (record { sort = name-sort.val; row = 0; word = word; size = 0; rows = 0; words = 0 }))
+        (pick b (record { sort = name-sort.array; row = rows; word = words; size = word; rows = 1; words = word })
+        (record { sort = name-sort.val; row = 0; word = word; size = 0; rows = 0; words = 0 }))
 
     by : (a b : Bool) → length (item-row (it a b)) ≡ row-words * it a b .rows
     by true b = refl
@@ -142,7 +147,8 @@ module _ (source kinds places values : List ℕ) where
     pub count : count′ ≡ s .names + 1
     pub rows : rows′ ≡ s .rows + read-item s i .rows
     pub words : words′ ≡ s .words + read-item s i .words
-    pub name : view source names′ (s .names + 1) ≡ record { name = text (i + 1); meaning = meant (by-sort (read-item s i .sort) (read-item s i .row) (read-item s i .word) (read-item s i .size)) } ∷ s .entries
+    pub name : view source names′ (s .names + 1)
+        ≡ record { name = text (i + 1); meaning = meant (by-sort (read-item s i .sort) (read-item s i .row) (read-item s i .word) (read-item s i .size)) } ∷ s .entries
     pub table : t′ ≡ sets t (row-words * s .rows) (item-row (read-item s i))
 
   abbrev pub Enters : Scope → ℕ → Table → Table → List ℕ → List ℕ → Progress → Type 0
@@ -157,7 +163,8 @@ module _ (source kinds places values : List ℕ) where
         let em′ : meant m ≡ meaning-of text s (i + 1) = em ∙ ap₂ (λ (a b : ℕ). lookup (s .entries) (views.text source a b)) ep en in
         sym (h ∙ (λ j. first (complaints-by (ek j) (em′ j) (ec j .status) (ec j .word) (s .names) (s .words) (ep j) (eq j))))
 
-    pub put-as : (e : Item) (names names′ : Table) (t t′ : List ℕ) (r : Progress) → e ≡ item-of k (c .word) (s .rows) (s .words) → s .entries ≡ view source names (s .names) → first (read-complaints s i) ≡ fine
+    pub put-as : (e : Item) (names names′ : Table) (t t′ : List ℕ) (r : Progress) → e ≡ item-of k (c .word) (s .rows) (s .words) → s .entries ≡ view source names (s .names)
+        → first (read-complaints s i) ≡ fine
         → Puts e p n (s .names) (s .rows) (s .words) names names′ t t′ r → Enters s i names names′ t t′ r
     put-as e names names′ t t′ (Refused x y) he hs f h = absurd h
     put-as e names names′ t t′ (Declared count rows words) he hs f h =
@@ -171,7 +178,8 @@ module _ (source kinds places values : List ℕ) where
           table = h .table ∙ ap (λ (x : Item). sets t (row-words * s .rows) (item-row x)) e′;
         }
 
-  pub entered-room : (s : Scope) (i : ℕ) (names names′ : Table) (t t′ : List ℕ) (count rows words : ℕ) → Entered s i names names′ t t′ count rows words → s .rows ≤ s .names → (rows ≤ count) × (count ≤ 256) × (words ≤ 8192)
+  pub entered-room : (s : Scope) (i : ℕ) (names names′ : Table) (t t′ : List ℕ) (count rows words : ℕ) → Entered s i names names′ t t′ count rows words → s .rows ≤ s .names
+      → (rows ≤ count) × (count ≤ 256) × (words ≤ 8192)
   entered-room s i names names′ t t′ count rows words h l =
       let c = constant-read text s (constant-at kinds values (i + 3)) in
       let r = room (getD kinds i 0) (meaning-of text s (i + 1)) (c .status) (c .word) (s .names) (s .words) (s .rows) (place (i + 1)) (place (i + 3)) (h .quiet) in
@@ -234,7 +242,8 @@ module _ (source kinds places values : List ℕ) where
 
       module _ (z : ¬ (getD kinds i 0 ≡ kind.comment)) where
         -- the specification at i is the first that is left
-        first-left : (rest : List Specification) × (g .left ≡ specification-at kinds values i ∷ rest) × (unread kinds values (i + width (getD kinds i 0)) ≡ text-specifications rest (text-process b []))
+        first-left : (rest : List Specification) × (g .left ≡ specification-at kinds values i ∷ rest)
+            × (unread kinds values (i + width (getD kinds i 0)) ≡ text-specifications rest (text-process b []))
         first-left =
             let (d, rest, e) = some-here in
             let h = specification-here kinds values d rest (text-process b []) i (g .here ∙ ap (λ (l : List Specification). text-specifications l (text-process b [])) e) z in
@@ -245,9 +254,11 @@ module _ (source kinds places values : List ℕ) where
             let (rest, l, h) = first-left in
             ap first (g .complaints ∙ ap (λ (x : List Specification). of-specifications text place x s) l)
             ∙ first-append (of-specification text place (specification-at kinds values i) s) (of-specifications text place rest (declare text (specification-at kinds values i) s))
-            ∙ ap (λ (v : Verdict). or-else v (first (of-specifications text place rest (declare text (specification-at kinds values i) s)))) (ap first (specified-complaints text place s kinds values i) ∙ e)
+            ∙ ap (λ (v : Verdict). or-else v (first (of-specifications text place rest (declare text (specification-at kinds values i) s))))
+            (ap first (specified-complaints text place s kinds values i) ∙ e)
 
-        pub going-on : (names′ : Table) (t′ : List ℕ) (count′ rows′ words′ : ℕ) → Entered s i names names′ t t′ count′ rows′ words′ → Going ds b t₀ names′ t′ (i + width (getD kinds i 0)) count′ rows′ words′
+        pub going-on : (names′ : Table) (t′ : List ℕ) (count′ rows′ words′ : ℕ) → Entered s i names names′ t t′ count′ rows′ words′
+            → Going ds b t₀ names′ t′ (i + width (getD kinds i 0)) count′ rows′ words′
         going-on names′ t′ count′ rows′ words′ n =
             let (rest, l, h) = first-left in
             let d = specification-at kinds values i in
@@ -255,13 +266,16 @@ module _ (source kinds places values : List ℕ) where
             let entered : List Entry = record { name = text (i + 1); meaning = meant (by-sort (e .sort) (e .row) (e .word) (e .size)) } ∷ view source names count in
             let v : entered ≡ view source names′ count′ = sym (n .name) ∙ ap (view source names′) (sym (n .count)) in
             let r = sym (n .rows) in let c = sym (n .count) in let w = sym (n .words) in
-            let s′ : declare text d s ≡ scope-of source names′ count′ rows′ words′ = specified-scope text place s kinds values i ∙ (λ j. record { entries = v j; rows = r j; names = c j; words = w j }) in
+            let s′ : declare text d s ≡ scope-of source names′ count′ rows′ words′ =
+            specified-scope text place s kinds values i ∙ (λ j. record { entries = v j; rows = r j; names = c j; words = w j }) in
             let q : of-specification text place d s ≡ [] = first-fine (of-specification text place d s) (ap first (specified-complaints text place s kinds values i) ∙ n .quiet) in
             let z = item-sized (getD kinds i 0) (constant-read text s (constant-at kinds values (i + 3)) .word) rows words in
             record {
               left = rest;
               here = h;
-              complaints = g .complaints ∙ ap (λ (x : List Specification). of-specifications text place x s) l ∙ ap (λ (cs : List Complaint). cs ++ of-specifications text place rest (declare text d s)) q ∙ ap (of-specifications text place rest) s′;
+              complaints =
+                  g .complaints ∙ ap (λ (x : List Specification). of-specifications text place x s) l ∙ ap (λ (cs : List Complaint). cs ++ of-specifications text place rest (declare text d s)) q
+                  ∙ ap (of-specifications text place rest) s′;
               scope = g .scope ∙ ap (λ (x : List Specification). declare-all text x s) l ∙ ap (declare-all text rest) s′;
               done = g .done ++ item-row (read-item s i);
               sized = length-append (g .done) (item-row e) ∙ omega (arith, g .sized, n .rows);
@@ -273,11 +287,13 @@ module _ (source kinds places values : List ℕ) where
                   ∙ (λ j. (g .done ++ item-row e) ++ declared-rows (declarations text rest (s′ j)) (w j));
             }
 
-    pub going-end : (names : Table) (t : List ℕ) (i count rows words : ℕ) → Going ds b t₀ names t i count rows words → length kinds - length (text-process b []) ≤ i → Filled ds t₀ t names count rows words
+    pub going-end : (names : Table) (t : List ℕ) (i count rows words : ℕ) → Going ds b t₀ names t i count rows words → length kinds - length (text-process b []) ≤ i
+        → Filled ds t₀ t names count rows words
     unfolding declared-rows
     going-end names t i count rows words g h =
         let e = none-left kinds values (g .left) (text-process b []) i (g .here) h in
-        let d : declared-rows (declarations text ds empty-scope) 0 ≡ g .done = g .declared ∙ ap (λ (x : List Specification). g .done ++ declared-rows (declarations text x (scope-of source names count rows words)) words) e ∙ append-nil (g .done) in
+        let d : declared-rows (declarations text ds empty-scope) 0 ≡ g .done =
+        g .declared ∙ ap (λ (x : List Specification). g .done ++ declared-rows (declarations text x (scope-of source names count rows words)) words) e ∙ append-nil (g .done) in
         record {
           quiet = g .complaints ∙ ap (λ (x : List Specification). of-specifications text place x (scope-of source names count rows words)) e;
           scope = g .scope ∙ ap (λ (x : List Specification). declare-all text x (scope-of source names count rows words)) e;

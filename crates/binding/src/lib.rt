@@ -44,7 +44,11 @@ fn constant_at(
     names: usize,
     j: usize,
 ) -> Constant
-    ensures { λ r. ⌜ ((made used : ℕ) → r ≡ «constant-read» («text-at» (now (source .entry)) (now (places .entry)) (now (values .entry))) («scope-of» (now (source .entry)) (arrays (now (sources .entry)) (now (lengths .entry)) (now (rows .entry)) (now (sorts .entry)) (now (words .entry)) (now (sizes .entry))) names made used) («constant-at» (now (kinds .entry)) (now (values .entry)) j)) ⌝ }
+    ensures { λ r. ⌜ ((made used : ℕ)
+        → r ≡ «constant-read» («text-at» (now (source .entry)) (now (places .entry)) (now (values .entry)))
+        («scope-of» (now (source .entry))
+        (arrays (now (sources .entry)) (now (lengths .entry)) (now (rows .entry)) (now (sorts .entry)) (now (words .entry)) (now (sizes .entry))) names made used)
+        («constant-at» (now (kinds .entry)) (now (values .entry)) j)) ⌝ }
 {
     if kind_at(kinds, j) == kind::NUMBER {
         return Constant {
@@ -84,7 +88,9 @@ fn enter(
     used: u32,
 ) -> Progress
     requires { ⌜ (names ≤ 255) × ((made ≤ names) × ((used + e .words ≤ 8192) × (e .rows ≤ 1))) ⌝ }
-    ensures { λ r. ⌜ Puts e p n names made used (arrays (now (sources .entry)) (now (lengths .entry)) (now (rows .entry)) (now (sorts .entry)) (now (words .entry)) (now (sizes .entry))) (arrays (now (sources .exit)) (now (lengths .exit)) (now (rows .exit)) (now (sorts .exit)) (now (words .exit)) (now (sizes .exit))) (now (table .entry)) (now (table .exit)) r ⌝ }
+    ensures { λ r. ⌜ Puts e p n names made used (arrays (now (sources .entry)) (now (lengths .entry)) (now (rows .entry)) (now (sorts .entry)) (now (words .entry)) (now (sizes .entry)))
+        (arrays (now (sources .exit)) (now (lengths .exit)) (now (rows .exit)) (now (sorts .exit)) (now (words .exit)) (now (sizes .exit))) (now (table .entry)) (now (table .exit))
+        r ⌝ }
 {
     let sort = e.sort;
     let word = e.word;
@@ -130,7 +136,11 @@ fn declare(
     used: u32,
 ) -> Progress
     requires { ⌜ (i ≤ 1024) × ((made ≤ names) × ((names ≤ 256) × (used ≤ 8192))) ⌝ }
-    ensures { λ r. ⌜ Enters (now (source .entry)) (now (kinds .entry)) (now (places .entry)) (now (values .entry)) («scope-of» (now (source .entry)) (arrays (now (sources .entry)) (now (lengths .entry)) (now (rows .entry)) (now (sorts .entry)) (now (words .entry)) (now (sizes .entry))) names made used) i (arrays (now (sources .entry)) (now (lengths .entry)) (now (rows .entry)) (now (sorts .entry)) (now (words .entry)) (now (sizes .entry))) (arrays (now (sources .exit)) (now (lengths .exit)) (now (rows .exit)) (now (sorts .exit)) (now (words .exit)) (now (sizes .exit))) (now (table .entry)) (now (table .exit)) r ⌝ }
+    ensures { λ r. ⌜ Enters (now (source .entry)) (now (kinds .entry)) (now (places .entry)) (now (values .entry))
+        («scope-of» (now (source .entry)) (arrays (now (sources .entry)) (now (lengths .entry)) (now (rows .entry)) (now (sorts .entry)) (now (words .entry)) (now (sizes .entry)))
+        names made used) i (arrays (now (sources .entry)) (now (lengths .entry)) (now (rows .entry)) (now (sorts .entry)) (now (words .entry)) (now (sizes .entry)))
+        (arrays (now (sources .exit)) (now (lengths .exit)) (now (rows .exit)) (now (sorts .exit)) (now (words .exit)) (now (sizes .exit))) (now (table .entry)) (now (table .exit))
+        r ⌝ }
 {
     let k = kind_at(kinds, i);
     let p = number(places, i + 1);
@@ -200,7 +210,10 @@ pub fn bind(
     start: usize,
 ) -> Progress
     requires { ⌜ start ≤ 1024 ⌝ }
-    ensures { λ r. ⌜ ((ds : List Specification) (b : Process) → unread (now (kinds .entry)) (now (values .entry)) 0 ≡ «text-specifications» ds («text-process» b []) → start ≡ length (now (kinds .entry)) - length («text-process» b []) → Fills (now (source .entry)) (now (kinds .entry)) (now (places .entry)) (now (values .entry)) ds (now (table .entry)) (now (table .exit)) (arrays (now (sources .exit)) (now (lengths .exit)) (now (rows .exit)) (now (sorts .exit)) (now (words .exit)) (now (sizes .exit))) r) ⌝ }
+    ensures { λ r. ⌜ ((ds : List Specification) (b : Process) → unread (now (kinds .entry)) (now (values .entry)) 0 ≡ «text-specifications» ds («text-process» b [])
+        → start ≡ length (now (kinds .entry)) - length («text-process» b [])
+        → Fills (now (source .entry)) (now (kinds .entry)) (now (places .entry)) (now (values .entry)) ds (now (table .entry)) (now (table .exit))
+        (arrays (now (sources .exit)) (now (lengths .exit)) (now (rows .exit)) (now (sorts .exit)) (now (words .exit)) (now (sizes .exit))) r) ⌝ }
 {
     let mut i: usize = 0;
     let mut names: usize = 0;

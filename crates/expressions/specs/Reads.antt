@@ -61,11 +61,29 @@ abbrev pub operand-form : Form
 operand-form = record { Tree = Operand; count = count-operand; rows = rows-operand; depth = λ a. 0; deepest = depth-operand; Context = OperandContext; need = need-operand; have = have-operand }
 
 abbrev pub expression-form : Form
-expression-form = record { Tree = Expression; count = count-expression; rows = rows-expression; depth = λ e. 0; deepest = depth-expression; Context = ExpressionContext; need = need-expression; have = have-expression }
+expression-form = record {
+  Tree = Expression;
+  count = count-expression;
+  rows = rows-expression;
+  depth = λ e. 0;
+  deepest = depth-expression;
+  Context = ExpressionContext;
+  need = need-expression;
+  have = have-expression;
+}
 
 -- the operands after an operator o
 abbrev pub chain-form : ℕ → Form
-chain-form o = record { Tree = Chain; count = count-chain; rows = λ c n. rows-chain c o n; depth = λ c. 0; deepest = depth-chain; Context = ChainContext; need = λ k. need-operand (next o k); have = λ c k. have-expression (chain-built k o c) (chain-base k) }
+chain-form o = record {
+  Tree = Chain;
+  count = count-chain;
+  rows = λ c n. rows-chain c o n;
+  depth = λ c. 0;
+  deepest = depth-chain;
+  Context = ChainContext;
+  need = λ k. need-operand (next o k);
+  have = λ c k. have-expression (chain-built k o c) (chain-base k);
+}
 
 -- the closing token of kind k after what was read
 abbrev pub closed : List ℕ → ℕ → Read → Read

@@ -3,7 +3,7 @@
 use mathlib.Core.Path.{_≡_}
 use mathlib.Core.Bool.{Bool, true, false}
 use mathlib.Core.List.{List, List·Memᴰ}
-use Prim.Native.Nat.{ℕ, _+_, _*_, _<_, _≤_}
+use Prim.Native.Nat.{ℕ, _<_, _≤_}
 use lib.Dec.{eqb, ltb, leb}
 use lib.ListN.{length}
 use Rattle.word.specs.Choice.{pick}
@@ -75,7 +75,9 @@ pub data Deserves (source : List ℕ) (table code : ℕ) : ℕ → ℕ → Type 
 
 -- "1 comes first; then 2 to 5 ...; then 13, 14, 6, 7; then 8 to 12": which numbers are ranked together, and where
 abbrev pub rank : ℕ → ℕ
-rank n = pick (eqb n refusal.long-source) 0 (pick (leb n refusal.many-tokens) 1 (pick (eqb n refusal.short-table) 2 (pick (eqb n refusal.short-code) 3 (pick (eqb n refusal.ungrammatical) 4 (pick (eqb n refusal.deep-program) 5 6)))))
+rank n =
+    pick (eqb n refusal.long-source) 0 (pick (leb n refusal.many-tokens) 1 (pick (eqb n refusal.short-table) 2 (pick (eqb n refusal.short-code) 3 (pick (eqb n refusal.ungrammatical) 4
+    (pick (eqb n refusal.deep-program) 5 6)))))
 
 -- m at q goes before n at p: by rank, then "by place, smaller number first at one place"
 abbrev pub goes-before : ℕ → ℕ → ℕ → ℕ → Bool

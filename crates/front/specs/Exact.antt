@@ -2,7 +2,7 @@
 use mathlib.Core.Path.{_≡_, refl, ap, _∙_}
 use mathlib.Core.Bool.{Bool, true, false}
 use mathlib.Core.List.{List}
-use Prim.Native.Nat.{ℕ, _+_, _*_}
+use Prim.Native.Nat.{ℕ}
 use native.Mathlib.Omega.{arith}
 use lib.Dec.{ltb}
 use lib.ListN.{length}
@@ -68,11 +68,14 @@ accepted-is-X source table code n q h = by-tokens (token.outcome source) refl h
         }
 
     by-depth : (ts : List Entry) (p : grammar.Program) → token.outcome source ≡ token.read ts → Room (length ts) table code → reads (symbols ts 0) ≡ automaton.accepted p
-        → (b : Bool) → too-deep p ≡ b → pick b (refused refusal.deep-program 0) (judged (least (complaints (text-of source ts) (place-of ts) p)) (length ts) (resolve (text-of source ts) p)) ≡ accepted n q → Accepted source table code n q
+        → (b : Bool) → too-deep p ≡ b
+        → pick b (refused refusal.deep-program 0) (judged (least (complaints (text-of source ts) (place-of ts) p)) (length ts) (resolve (text-of source ts) p)) ≡ accepted n q
+        → Accepted source table code n q
     by-depth ts p e r g true d h = not-accepted _ _ n q h
     by-depth ts p e r g false d h = by-verdict ts p e r g d (least (complaints (text-of source ts) (place-of ts) p)) refl h
 
-    by-reading : (ts : List Entry) → token.outcome source ≡ token.read ts → Room (length ts) table code → (v : automaton.Reading) → reads (symbols ts 0) ≡ v → parsed source ts v ≡ accepted n q → Accepted source table code n q
+    by-reading : (ts : List Entry) → token.outcome source ≡ token.read ts → Room (length ts) table code → (v : automaton.Reading) → reads (symbols ts 0) ≡ v
+        → parsed source ts v ≡ accepted n q → Accepted source table code n q
     by-reading ts e r (automaton.accepted p) g h = by-depth ts p e r g (too-deep p) refl h
     by-reading ts e r (automaton.refused u) g h = not-accepted _ _ n q h
 

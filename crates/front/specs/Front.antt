@@ -1,6 +1,6 @@
 -- What a source comes to: the resolved program, or one refusal, in document 01's order. Definitions; rests on tokens, grammar and names.
 use mathlib.Core.List.{List}
-use Prim.Native.Nat.{ℕ, _+_, _*_}
+use Prim.Native.Nat.{ℕ}
 use lib.Dec.{ltb}
 use lib.ListN.{length}
 use Rattle.word.specs.Choice.{pick}

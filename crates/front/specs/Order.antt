@@ -3,7 +3,7 @@
 use mathlib.Core.Path.{_≡_, refl, sym, ap, subst, _∙_}
 use mathlib.Core.Bool.{Bool, true, false}
 use mathlib.Core.List.{List, List·Memᴰ, List·Memᴰ·not-nil}
-use Prim.Native.Nat.{ℕ, zero, suc, _+_, _*_, _≤_, _<_}
+use Prim.Native.Nat.{ℕ, zero, suc, _≤_, _<_}
 use native.Mathlib.Omega.{arith}
 use lib.Dec.{eqb, ltb, leb}
 use lib.ListN.{length}
@@ -33,7 +33,8 @@ use Rattle.names.specs.Least.{least-none, least-one}
 use Rattle.names.specs.Numbered.{Within, Judged, judged-within}
 use Rattle.names.specs.Resolve.{resolve}
 use Rattle.front.specs.Symbols.{place-of, text-of, symbols, unread-place}
-use Rattle.front.specs.Deserved.{HasTokens, HasTree, Ungrammatical, Misnamed, Deserves, long-source, broken-token, large-number, long-name, many-tokens, short-table, short-code, ungrammatical, deep-program, not-declared, declared-twice, wrong-kind, bad-length, too-much, rank, goes-before, FirstDeserved}
+use Rattle.front.specs.Deserved.{HasTokens, HasTree, Ungrammatical, Misnamed, Deserves, long-source, broken-token, large-number, long-name, many-tokens, short-table, short-code}
+use Rattle.front.specs.Deserved.{ungrammatical, deep-program, not-declared, declared-twice, wrong-kind, bad-length, too-much, rank, goes-before, FirstDeserved}
 use Rattle.front.specs.Front.{Outcome, refused, accepted, judged, named, parsed, tokened, front}
 use Rattle.front.specs.Refused.{places-inside}
 
@@ -120,7 +121,8 @@ module _ (source : List ℕ) (table code : ℕ) where
   rank-most : (n : ℕ) → rank n < 7
   rank-most n =
       pick-below (eqb n refusal.long-source) 0 _ 7 (omega arith) (pick-below (leb n refusal.many-tokens) 1 _ 7 (omega arith) (pick-below (eqb n refusal.short-table) 2 _ 7 (omega arith)
-      (pick-below (eqb n refusal.short-code) 3 _ 7 (omega arith) (pick-below (eqb n refusal.ungrammatical) 4 _ 7 (omega arith) (pick-below (eqb n refusal.deep-program) 5 6 7 (omega arith) (omega arith))))))
+      (pick-below (eqb n refusal.short-code) 3 _ 7 (omega arith)
+      (pick-below (eqb n refusal.ungrammatical) 4 _ 7 (omega arith) (pick-below (eqb n refusal.deep-program) 5 6 7 (omega arith) (omega arith))))))
 
   all-spared : Spared 7 → (m q : ℕ) → Deserves source table code m q → ⊥
   all-spared s m q d = s (rank m) (rank-most m) m q (sorted m q d)
@@ -128,7 +130,14 @@ module _ (source : List ℕ) (table code : ℕ) where
   -- ── 8 to 12 ──
 
   names-rank : (n : ℕ) → refusal.not-declared ≤ n → n ≤ refusal.too-much → rank n ≡ 6
-  names-rank n l h = rw (ne-eqb n refusal.long-source (omega arith), lt-leb n refusal.many-tokens (omega arith), ne-eqb n refusal.short-table (omega arith), ne-eqb n refusal.short-code (omega arith), ne-eqb n refusal.ungrammatical (omega arith), ne-eqb n refusal.deep-program (omega arith))
+  names-rank n l h = rw (
+    ne-eqb n refusal.long-source (omega arith),
+    lt-leb n refusal.many-tokens (omega arith),
+    ne-eqb n refusal.short-table (omega arith),
+    ne-eqb n refusal.short-code (omega arith),
+    ne-eqb n refusal.ungrammatical (omega arith),
+    ne-eqb n refusal.deep-program (omega arith),
+  )
 
   names-deserve : (n p : ℕ) → refusal.not-declared ≤ n → n ≤ refusal.too-much → Misnamed source n p → Deserves source table code n p
   names-deserve n p l h c =
@@ -201,7 +210,8 @@ module _ (source : List ℕ) (table code : ℕ) where
     right-parsed s l (automaton.refused u) e =
         let f = refused-first (symbols ts 0) u e in
         let place = unread-place ts (length u) (length source) in
-        settled refusal.ungrammatical place 4 refl s (λ m q b. same-place place m q (b .0) (here u f q (b .1))) (ungrammatical (record { ts = ts; unread = u; tokens = t; first-bad = f; place = refl }))
+        settled refusal.ungrammatical place 4 refl s (λ m q b. same-place place m q (b .0) (here u f q (b .1)))
+        (ungrammatical (record { ts = ts; unread = u; tokens = t; first-bad = f; place = refl }))
       where
         same-place : (p m q : ℕ) → m ≡ refusal.ungrammatical → q ≡ p → NotBefore refusal.ungrammatical p m q
         same-place p m q a b = record { place = omega arith; number = λ _. omega arith }
@@ -214,7 +224,9 @@ module _ (source : List ℕ) (table code : ℕ) where
 
     right-read : Spared 2 → Placed (length source) 0 ts → Right (tokened source table code (token.read ts))
     right-read s l =
-        by-test (λ (a : Bool). Right (pick a (refused refusal.short-table 0) (pick (ltb code (code-room (length ts))) (refused refusal.short-code 0) (parsed source ts (reads (symbols ts 0)))))) (ltb table (table-room (length ts)))
+        by-test
+        (λ (a : Bool). Right (pick a (refused refusal.short-table 0) (pick (ltb code (code-room (length ts))) (refused refusal.short-code 0) (parsed source ts (reads (symbols ts 0))))))
+        (ltb table (table-room (length ts)))
         (λ e. settled refusal.short-table 0 2 refl s (λ m q b. alone refusal.short-table m q (b .0) (b .1)) (short-table t (ltb-true table (table-room (length ts)) e)))
         (λ e.
         by-test (λ (a : Bool). Right (pick a (refused refusal.short-code 0) (parsed source ts (reads (symbols ts 0))))) (ltb code (code-room (length ts)))
@@ -266,7 +278,8 @@ module _ (source : List ℕ) (table code : ℕ) where
       (λ _ e. let h = leb-true (length source) 16384 e in
       let sound = rw (outcome-short source h) at (outcome-sound source) in
       rw (outcome-short source h) (right-scanned (spared-more 0 none-spared (λ m q b. omega (arith, b .2))) (token.scan source 0 0 0) sound (agree-split source)))
-      (λ _ e. let h = leb-false (length source) 16384 e in rw (outcome-long source h) (settled refusal.long-source 0 0 refl none-spared (λ m q b. alone refusal.long-source m q (b .0) (b .1)) (long-source h)))
+      (λ _ e. let h = leb-false (length source) 16384 e in
+      rw (outcome-long source h) (settled refusal.long-source 0 0 refl none-spared (λ m q b. alone refusal.long-source m q (b .0) (b .1)) (long-source h)))
       refl
 
 -- ── exactly ──

@@ -2,7 +2,7 @@
 use mathlib.Core.Path.{_≡_, refl, ap, subst}
 use mathlib.Core.Bool.{Bool, true, false}
 use mathlib.Core.List.{List, [], _∷_}
-use Prim.Native.Nat.{ℕ, zero, suc, _+_, _*_, _<_, _≤_, max}
+use Prim.Native.Nat.{ℕ, zero, suc, _+_, _<_, _≤_, max}
 use native.Mathlib.Omega.{arith}
 use lib.Dec.{eqb, ltb, leb}
 use lib.ListN.{length}
@@ -145,9 +145,12 @@ judged-numbered source (names.refused c) n q h = record { low = omega (arith, h 
 named-numbered : (source : List ℕ) (ts : List Entry) (p : grammar.Program) → Placed (length source) 0 ts → Answered source (named source ts p)
 unfolding named
 named-numbered source ts p h =
-    by-test (λ (b : Bool). Answered source (pick b (refused refusals.deep-program 0) (judged (least (complaints (text-of source ts) (place-of ts) p)) (length ts) (resolve (text-of source ts) p)))) (too-deep p)
+    by-test (λ (b : Bool).
+    Answered source (pick b (refused refusals.deep-program 0) (judged (least (complaints (text-of source ts) (place-of ts) p)) (length ts) (resolve (text-of source ts) p))))
+    (too-deep p)
     (λ e. record { low = omega arith; high = omega arith; inside = omega arith })
-    (λ e. judged-numbered source (least (complaints (text-of source ts) (place-of ts) p)) (length ts) _ (judged-within (text-of source ts) (place-of ts) (length source) (λ k. places-inside (length source) 0 ts k h) p))
+    (λ e. judged-numbered source (least (complaints (text-of source ts) (place-of ts) p)) (length ts) _
+    (judged-within (text-of source ts) (place-of ts) (length source) (λ k. places-inside (length source) 0 ts k h) p))
 
 parsed-numbered : (source : List ℕ) (ts : List Entry) (r : automaton.Reading) → Placed (length source) 0 ts → Answered source (parsed source ts r)
 parsed-numbered source ts (automaton.accepted p) h = named-numbered source ts p h
@@ -156,7 +159,9 @@ parsed-numbered source ts (automaton.refused u) h = record { low = omega arith; 
 tokened-numbered : (source : List ℕ) (table code : ℕ) (o : token.Outcome) → source-laws.Sound (length source) 0 o → Answered source (tokened source table code o)
 tokened-numbered source table code (token.refused n p) h = record { low = h .0; high = omega (arith, h .1); inside = h .2 }
 tokened-numbered source table code (token.read ts) h =
-    by-test (λ (b : Bool). Answered source (pick b (refused refusals.short-table 0) (pick (ltb code (code-room (length ts))) (refused refusals.short-code 0) (parsed source ts (reads (symbols ts 0)))))) (ltb table (table-room (length ts)))
+    by-test (λ (b : Bool). Answered source
+    (pick b (refused refusals.short-table 0) (pick (ltb code (code-room (length ts))) (refused refusals.short-code 0) (parsed source ts (reads (symbols ts 0))))))
+    (ltb table (table-room (length ts)))
     (λ e. record { low = omega arith; high = omega arith; inside = omega arith })
     (λ e.
     by-test (λ (b : Bool). Answered source (pick b (refused refusals.short-code 0) (parsed source ts (reads (symbols ts 0))))) (ltb code (code-room (length ts)))

@@ -56,5 +56,6 @@ both : {k n : ℕ} → n ≤ k → k ≤ n → k ≡ n
 both h q = omega (arith, h, q)
 
 -- past the other kinds only the while is left
-pub only-loop : {k : ℕ} → layout.skip ≤ k → k ≤ layout.while → (k ≡ layout.skip → ⊥) → (k ≡ layout.stop → ⊥) → (k ≡ layout.assign → ⊥) → (k ≡ layout.assign-element → ⊥) → (k ≡ layout.sequence → ⊥) → (k ≡ layout.if → ⊥) → k ≡ layout.while
+pub only-loop : {k : ℕ} → layout.skip ≤ k → k ≤ layout.while → (k ≡ layout.skip → ⊥) → (k ≡ layout.stop → ⊥) → (k ≡ layout.assign → ⊥) → (k ≡ layout.assign-element → ⊥)
+    → (k ≡ layout.sequence → ⊥) → (k ≡ layout.if → ⊥) → k ≡ layout.while
 only-loop f t a b c d e g = both (past (past (past (past (past (past f a) b) c) d) e) g) t

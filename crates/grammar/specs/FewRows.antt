@@ -4,7 +4,10 @@ use mathlib.Core.List.{List, [], _∷_}
 use native.Mathlib.Omega.{arith}
 use lib.ListN.{length}
 use Rattle.spelling.specs.Kinds as kind
-use Rattle.grammar.specs.Grammar.{Token, mark, Constant, literal, named, Specification, var, array, val, commented, Expression, single, monadic, diadic, Chain, last, more, Operand, constant, variable, element, bracketed, Process, skip, stop, assign, assign-element, empty, braces, conditional, while, after-comment, Processes, only, followed, Program, program, text-expression, text-chain, text-operand, text-process, text-processes, text-constant, text-specification, text-specifications, text-program}
+use Rattle.grammar.specs.Grammar.{Token, mark, Constant, literal, named, Specification, var, array, val, commented, Expression, single, monadic, diadic, Chain, last, more, Operand}
+use Rattle.grammar.specs.Grammar.{constant, variable, element, bracketed, Process, skip, stop, assign, assign-element, empty, braces, conditional, while, after-comment, Processes, only}
+use Rattle.grammar.specs.Grammar.{followed, Program, program, text-expression, text-chain, text-operand, text-process, text-processes, text-constant, text-specification}
+use Rattle.grammar.specs.Grammar.{text-specifications, text-program}
 use Rattle.grammar.specs.Rows.{count-expression, count-chain, count-operand, count-process, count-processes, declared-by, declared-rows, row-count}
 
 mutual

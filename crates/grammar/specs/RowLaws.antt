@@ -5,7 +5,8 @@ use Prim.Native.Nat.{ℕ, suc, _+_, _*_}
 use native.Mathlib.Omega.{arith}
 use lib.ListN.{length, length-append}
 use lib.Seq.{sets}
-use Rattle.grammar.specs.Grammar.{Expression, single, monadic, diadic, Chain, last, more, Operand, constant, variable, element, bracketed, Process, skip, stop, assign, assign-element, empty, braces, conditional, while, after-comment, Processes, only, followed}
+use Rattle.grammar.specs.Grammar.{Expression, single, monadic, diadic, Chain, last, more, Operand, constant, variable, element, bracketed, Process, skip, stop, assign, assign-element}
+use Rattle.grammar.specs.Grammar.{empty, braces, conditional, while, after-comment, Processes, only, followed}
 use Rattle.grammar.specs.Rows.{count-expression, count-chain, count-operand, count-process, count-processes, rows-expression, rows-chain, rows-operand, rows-process, rows-processes}
 use Rattle.program.specs.Layout.{row-words}
 
@@ -45,7 +46,9 @@ mutual
   length-process (assign-element x s e) n = let y = length-expression s n in let z = length-expression e (n + count-expression s) in simp length-append (omega arith)
   length-process empty n = refl
   length-process (braces ps) n = length-processes ps n
-  length-process (conditional e p q) n = let x = length-expression e n in let y = length-process p (n + count-expression e) in let z = length-process q (n + count-expression e + count-process p) in simp length-append (omega arith)
+  length-process (conditional e p q) n =
+      let x = length-expression e n in let y = length-process p (n + count-expression e) in let z = length-process q (n + count-expression e + count-process p) in
+      simp length-append (omega arith)
   length-process (while e p) n = let x = length-expression e n in let y = length-process p (n + count-expression e) in simp length-append (omega arith)
   length-process (after-comment p) n = length-process p n
 

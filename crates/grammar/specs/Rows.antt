@@ -5,7 +5,8 @@ use Prim.Native.Nat.{ℕ, _+_, _-_}
 use lib.Dec.{eqb}
 use Rattle.word.specs.Choice.{pick}
 use Rattle.spelling.specs.Kinds as kind
-use Rattle.grammar.specs.Grammar.{Expression, single, monadic, diadic, Chain, last, more, Operand, constant, variable, element, bracketed, Process, skip, stop, assign, assign-element, empty, braces, conditional, while, after-comment, Processes, only, followed, Specification, var, array, val, commented, Program, program}
+use Rattle.grammar.specs.Grammar.{Expression, single, monadic, diadic, Chain, last, more, Operand, constant, variable, element, bracketed, Process, skip, stop, assign, assign-element}
+use Rattle.grammar.specs.Grammar.{empty, braces, conditional, while, after-comment, Processes, only, followed, Specification, var, array, val, commented, Program, program}
 use Rattle.program.specs.Layout as layout
 use Rattle.program.specs.Tree.{negate, invert}
 use Rattle.program.specs.Rows as table
@@ -73,16 +74,19 @@ unfoldable mutual
   rows-operand (element x e) n = rows-expression e n ++ row layout.element x (n + count-expression e - 1) 0
   rows-operand (bracketed e) n = rows-expression e n
 
--- "8 skip; 9 stop; 10 assign (var row, value); 11 assign element (array row, subscript, value); 12 two in sequence, a list grouped to the right; 13 if (condition, then, else); 14 while (condition, body)"
+-- "8 skip; 9 stop; 10 assign (var row, value); 11 assign element (array row, subscript, value); 12 two in sequence, a list grouped to the right; 13 if (condition, then, else); 14 while
+-- (condition, body)"
 unfoldable mutual
   pub rows-process : Process → ℕ → List ℕ
   rows-process skip n = row layout.skip 0 0 0
   rows-process stop n = row layout.stop 0 0 0
   rows-process (assign x e) n = rows-expression e n ++ row layout.assign x (n + count-expression e - 1) 0
-  rows-process (assign-element x s e) n = rows-expression s n ++ rows-expression e (n + count-expression s) ++ row layout.assign-element x (n + count-expression s - 1) (n + count-expression s + count-expression e - 1)
+  rows-process (assign-element x s e) n =
+      rows-expression s n ++ rows-expression e (n + count-expression s) ++ row layout.assign-element x (n + count-expression s - 1) (n + count-expression s + count-expression e - 1)
   rows-process empty n = row layout.skip 0 0 0
   rows-process (braces ps) n = rows-processes ps n
-  rows-process (conditional e p q) n = rows-expression e n ++ rows-process p (n + count-expression e) ++ rows-process q (n + count-expression e + count-process p) ++ row layout.if (n + count-expression e - 1) (n + count-expression e + count-process p - 1) (n + count-expression e + count-process p + count-process q - 1)
+  rows-process (conditional e p q) n = rows-expression e n ++ rows-process p (n + count-expression e) ++ rows-process q (n + count-expression e + count-process p)
+      ++ row layout.if (n + count-expression e - 1) (n + count-expression e + count-process p - 1) (n + count-expression e + count-process p + count-process q - 1)
   rows-process (while e p) n = rows-expression e n ++ rows-process p (n + count-expression e) ++ row layout.while (n + count-expression e - 1) (n + count-expression e + count-process p - 1) 0
   rows-process (after-comment p) n = rows-process p n
 

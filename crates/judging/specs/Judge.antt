@@ -73,7 +73,9 @@ unfoldable pub complaints-by : ℕ → Meaning → ℕ → ℕ → ℕ → ℕ �
 complaints-by k m status word names words p q =
     pick (eqb k kind.var) (listed p (when (is-known m) refusal.declared-twice ++ when (over names words 1) refusal.too-much))
     (pick (eqb k kind.array)
-    (listed p (when (is-known m) refusal.declared-twice ++ pick (eqb status 0) (when (bad-length word) refusal.bad-length ++ when (over names words word) refusal.too-much) (when (over names words 0) refusal.too-much)) ++ listed q (some status))
+    (listed p (when (is-known m) refusal.declared-twice
+    ++ pick (eqb status 0) (when (bad-length word) refusal.bad-length ++ when (over names words word) refusal.too-much) (when (over names words 0) refusal.too-much))
+    ++ listed q (some status))
     (listed p (when (is-known m) refusal.declared-twice ++ when (over names words 0) refusal.too-much) ++ listed q (some status)))
 
 -- what a specification enters: the name's sort, its row, its word and size; and how many rows and words it declares
@@ -115,7 +117,9 @@ module _ (text : ℕ → List ℕ) (place : ℕ → ℕ) (s : Scope) where
   constant-listed : (kinds values : List ℕ) (j : ℕ) → of-constant text place s (constant-at kinds values j) ≡ listed (place j) (some (constant-read text s (constant-at kinds values j) .status))
   constant-listed kinds values j = by (eqb (getD kinds j 0) kind.number)
     where
-      by : (b : Bool) → of-constant text place s (pick b (grammar.literal (getD values j 0)) (grammar.named j)) ≡ listed (place j) (some (constant-read text s (pick b (grammar.literal (getD values j 0)) (grammar.named j)) .status))
+      by : (b : Bool)
+          → of-constant text place s (pick b (grammar.literal (getD values j 0)) (grammar.named j))
+          ≡ listed (place j) (some (constant-read text s (pick b (grammar.literal (getD values j 0)) (grammar.named j)) .status))
       by true = refl
       by false = at-listed j (as-constant (meaning-of text s j)) ∙ ap (listed (place j)) (as-some (meaning-of text s j))
 
@@ -162,16 +166,21 @@ module _ (text : ℕ → List ℕ) (place : ℕ → ℕ) (s : Scope) where
         w = constant-read text s c .word
 
         numbers : Bool → ℕ → List ℕ
-        numbers h v = when (is-known m) refusal.declared-twice ++ pick h (when (bad-length v) refusal.bad-length ++ when (over (s .names) (s .words) v) refusal.too-much) (when (over (s .names) (s .words) 0) refusal.too-much)
+        numbers h v = when (is-known m) refusal.declared-twice
+            ++ pick h (when (bad-length v) refusal.bad-length ++ when (over (s .names) (s .words) v) refusal.too-much) (when (over (s .names) (s .words) 0) refusal.too-much)
 
         by : (a b : Bool) → of-specification text place (pick a (grammar.var (i + 1)) (pick b (grammar.array (i + 1) c) (val (i + 1) c))) s
             ≡ pick a (listed (place (i + 1)) (when (is-known m) refusal.declared-twice ++ when (over (s .names) (s .words) 1) refusal.too-much))
             (pick b
-            (listed (place (i + 1)) (when (is-known m) refusal.declared-twice ++ pick (eqb st 0) (when (bad-length w) refusal.bad-length ++ when (over (s .names) (s .words) w) refusal.too-much) (when (over (s .names) (s .words) 0) refusal.too-much)) ++ listed (place (i + 3)) (some st))
+            (listed (place (i + 1))
+            (when (is-known m) refusal.declared-twice
+            ++ pick (eqb st 0) (when (bad-length w) refusal.bad-length ++ when (over (s .names) (s .words) w) refusal.too-much) (when (over (s .names) (s .words) 0) refusal.too-much))
+            ++ listed (place (i + 3)) (some st))
             (listed (place (i + 1)) (when (is-known m) refusal.declared-twice ++ when (over (s .names) (s .words) 0) refusal.too-much) ++ listed (place (i + 3)) (some st)))
         by true b = at-listed (i + 1) (when (is-known m) refusal.declared-twice ++ when (over (s .names) (s .words) 1) refusal.too-much)
         by false true =
-            ap₂ _++_ (at-listed (i + 1) (numbers (has-word text place s c) (constant-word text s c)) ∙ ap (listed (place (i + 1))) (ap₂ numbers (known-by c) (sym (word-by c)))) (constant-listed kinds values (i + 3))
+            ap₂ _++_ (at-listed (i + 1) (numbers (has-word text place s c) (constant-word text s c)) ∙ ap (listed (place (i + 1))) (ap₂ numbers (known-by c) (sym (word-by c))))
+            (constant-listed kinds values (i + 3))
         by false false = ap₂ _++_ (at-listed (i + 1) (when (is-known m) refusal.declared-twice ++ when (over (s .names) (s .words) 0) refusal.too-much)) (constant-listed kinds values (i + 3))
 
     abbrev e : Item
@@ -179,7 +188,12 @@ module _ (text : ℕ → List ℕ) (place : ℕ → ℕ) (s : Scope) where
 
     -- THE LAW of what is declared
     pub specified-scope : declare text (specification-at kinds values i) s
-        ≡ record { entries = record { name = text (i + 1); meaning = meant (by-sort (e .sort) (e .row) (e .word) (e .size)) } ∷ s .entries; rows = s .rows + e .rows; names = s .names + 1; words = s .words + e .words }
+        ≡ record {
+          entries = record { name = text (i + 1); meaning = meant (by-sort (e .sort) (e .row) (e .word) (e .size)) } ∷ s .entries;
+          rows = s .rows + e .rows;
+          names = s .names + 1;
+          words = s .words + e .words;
+        }
     unfolding item-of
     specified-scope = rw (word-by c) (by (eqb k kind.var) (eqb k kind.array))
       where
@@ -189,10 +203,16 @@ module _ (text : ℕ → List ℕ) (place : ℕ → ℕ) (s : Scope) where
         it : Bool → Bool → Item
         it a b =
             pick a (record { sort = name-sort.var; row = s .rows; word = s .words; size = 1; rows = 1; words = 1 })
-            (pick b (record { sort = name-sort.array; row = s .rows; word = s .words; size = w; rows = 1; words = w }) (record { sort = name-sort.val; row = 0; word = w; size = 0; rows = 0; words = 0 }))
+            (pick b (record { sort = name-sort.array; row = s .rows; word = s .words; size = w; rows = 1; words = w })
+            (record { sort = name-sort.val; row = 0; word = w; size = 0; rows = 0; words = 0 }))
 
         by : (a b : Bool) → declare text (pick a (grammar.var (i + 1)) (pick b (grammar.array (i + 1) c) (val (i + 1) c))) s
-            ≡ record { entries = record { name = text (i + 1); meaning = meant (by-sort (it a b .sort) (it a b .row) (it a b .word) (it a b .size)) } ∷ s .entries; rows = s .rows + it a b .rows; names = s .names + 1; words = s .words + it a b .words }
+            ≡ record {
+              entries = record { name = text (i + 1); meaning = meant (by-sort (it a b .sort) (it a b .row) (it a b .word) (it a b .size)) } ∷ s .entries;
+              rows = s .rows + it a b .rows;
+              names = s .names + 1;
+              words = s .words + it a b .words;
+            }
         by true b = refl
         by false true = refl
         by false false = refl
@@ -207,9 +227,12 @@ module _ (text : ℕ → List ℕ) (place : ℕ → ℕ) (s : Scope) where
         it : Bool → Bool → Item
         it a b =
             pick a (record { sort = name-sort.var; row = s .rows; word = s .words; size = 1; rows = 1; words = 1 })
-            (pick b (record { sort = name-sort.array; row = s .rows; word = s .words; size = w; rows = 1; words = w }) (record { sort = name-sort.val; row = 0; word = w; size = 0; rows = 0; words = 0 }))
+            (pick b (record { sort = name-sort.array; row = s .rows; word = s .words; size = w; rows = 1; words = w })
+            (record { sort = name-sort.val; row = 0; word = w; size = 0; rows = 0; words = 0 }))
 
-        by : (a b : Bool) → declared-rows (declared text (pick a (grammar.var (i + 1)) (pick b (grammar.array (i + 1) c) (val (i + 1) c))) s ds) (s .words) ≡ item-row (it a b) ++ declared-rows ds (s .words + it a b .words)
+        by : (a b : Bool)
+            → declared-rows (declared text (pick a (grammar.var (i + 1)) (pick b (grammar.array (i + 1) c) (val (i + 1) c))) s ds) (s .words)
+            ≡ item-row (it a b) ++ declared-rows ds (s .words + it a b .words)
         by true b = refl
         by false true = refl
         by false false = rw (add-zero (s .words))

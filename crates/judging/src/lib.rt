@@ -76,7 +76,8 @@ fn new_name(m: Meaning, names: usize, words: u32, more: u32, place: u32) -> Verd
 
 // What an array of that length deserves.
 fn new_array(m: Meaning, names: usize, words: u32, length: u32, place: u32) -> Verdict
-    ensures { λ r. ⌜ «verdict-of» r ≡ first (listed place (when («is-known» (meant m)) refusals.«declared-twice» ++ (when («bad-length» length) refusals.«bad-length» ++ when (over names words length) refusals.«too-much»))) ⌝ }
+    ensures { λ r. ⌜ «verdict-of» r ≡ first (listed place (when («is-known» (meant m)) refusals.«declared-twice»
+        ++ (when («bad-length» length) refusals.«bad-length» ++ when (over names words length) refusals.«too-much»))) ⌝ }
 {
     if known(m) {
         return Verdict::Refused(refusal::DECLARED_TWICE, place);

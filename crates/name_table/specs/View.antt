@@ -112,7 +112,8 @@ module _ (source : List ℕ) (t : Table) (n place length row sort word size : �
       )
       (ap (λ (es : List Entry). entry-at source t k ∷ es) (view-kept k (omega arith)))
 
-  pub view-more : Has t n → view source (with-name t n place length row sort word size) (suc n) ≡ record { name = text source place length; meaning = meant (by-sort sort row word size) } ∷ view source t n
+  pub view-more : Has t n
+      → view source (with-name t n place length row sort word size) (suc n) ≡ record { name = text source place length; meaning = meant (by-sort sort row word size) } ∷ view source t n
   unfolding view
   view-more h =
       rw (

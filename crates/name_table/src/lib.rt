@@ -78,7 +78,15 @@ pub fn stands_for(
     p: u32,
     n: u32,
 ) -> Meaning
-    ensures { λ r. ⌜ meant r ≡ lookup (view (now (source .entry)) (record { places = now (places .entry); lengths = now (lengths .entry); rows = now (rows .entry); sorts = now (sorts .entry); words = now (words .entry); sizes = now (sizes .entry) }) count) (views.text (now (source .entry)) p n) ⌝ }
+    ensures { λ r. ⌜ meant r ≡ lookup (view (now (source .entry))
+        (record {
+          places = now (places .entry);
+          lengths = now (lengths .entry);
+          rows = now (rows .entry);
+          sorts = now (sorts .entry);
+          words = now (words .entry);
+          sizes = now (sizes .entry);
+        }) count) (views.text (now (source .entry)) p n) ⌝ }
 {
     let mut k = count;
     while 0 < k {
@@ -107,7 +115,24 @@ pub fn add(
     size: u32,
 )
     requires { ⌜ (k < length (now places)) × ((k < length (now lengths)) × ((k < length (now rows)) × ((k < length (now sorts)) × ((k < length (now words)) × (k < length (now sizes)))))) ⌝ }
-    ensures { λ _. ⌜ ((source : List ℕ) → view source (record { places = now (places .exit); lengths = now (lengths .exit); rows = now (rows .exit); sorts = now (sorts .exit); words = now (words .exit); sizes = now (sizes .exit) }) (suc k) ≡ record { name = views.text source p n; meaning = meant (views.«by-sort» sort row word size) } ∷ view source (record { places = now (places .entry); lengths = now (lengths .entry); rows = now (rows .entry); sorts = now (sorts .entry); words = now (words .entry); sizes = now (sizes .entry) }) k) ⌝ }
+    ensures { λ _. ⌜ ((source : List ℕ)
+        → view source (record {
+          places = now (places .exit);
+          lengths = now (lengths .exit);
+          rows = now (rows .exit);
+          sorts = now (sorts .exit);
+          words = now (words .exit);
+          sizes = now (sizes .exit);
+        }) (suc k)
+        ≡ record { name = views.text source p n; meaning = meant (views.«by-sort» sort row word size) }
+        ∷ view source (record {
+          places = now (places .entry);
+          lengths = now (lengths .entry);
+          rows = now (rows .entry);
+          sorts = now (sorts .entry);
+          words = now (words .entry);
+          sizes = now (sizes .entry);
+        }) k) ⌝ }
 {
     places[k] = p;
     lengths[k] = n;

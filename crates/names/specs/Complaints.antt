@@ -6,7 +6,8 @@ use Prim.Native.Nat.{ℕ, _+_}
 use lib.Dec.{eqb, ltb, leb}
 use Rattle.word.specs.Choice.{pick}
 use Rattle.token.specs.Refusals as refusal
-use Rattle.grammar.specs.Grammar.{Constant, literal, named, Specification, var, val, commented, Expression, single, monadic, diadic, Chain, last, more, Operand, element, bracketed, Process, skip, stop, assign, assign-element, empty, braces, conditional, while, after-comment, Processes, only, followed, Program, program}
+use Rattle.grammar.specs.Grammar.{Constant, literal, named, Specification, var, val, commented, Expression, single, monadic, diadic, Chain, last, more, Operand, element, bracketed, Process, skip}
+use Rattle.grammar.specs.Grammar.{stop, assign, assign-element, empty, braces, conditional, while, after-comment, Processes, only, followed, Program, program}
 use Rattle.grammar.specs.Grammar as grammar
 use Rattle.names.specs.Scope.{Meaning, unknown, variable, array, constant, Scope, empty-scope, meaning-of, constant-word, declare, declare-all}
 

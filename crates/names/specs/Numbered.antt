@@ -5,10 +5,12 @@ use Prim.Native.Nat.{ℕ, _≤_}
 use native.Mathlib.Omega.{arith}
 use Rattle.word.specs.Choice.{pick}
 use Rattle.token.specs.Refusals as refusal
-use Rattle.grammar.specs.Grammar.{Constant, literal, named, Specification, var, val, commented, Expression, single, monadic, diadic, Chain, last, more, Operand, element, bracketed, Process, skip, stop, assign, assign-element, empty, braces, conditional, while, after-comment, Processes, only, followed, Program, program}
+use Rattle.grammar.specs.Grammar.{Constant, literal, named, Specification, var, val, commented, Expression, single, monadic, diadic, Chain, last, more, Operand, element, bracketed, Process, skip}
+use Rattle.grammar.specs.Grammar.{stop, assign, assign-element, empty, braces, conditional, while, after-comment, Processes, only, followed, Program, program}
 use Rattle.grammar.specs.Grammar as grammar
 use Rattle.names.specs.Scope.{Meaning, unknown, variable, array, constant, Scope, empty-scope, meaning-of, constant-word, declare, declare-all}
-use Rattle.names.specs.Complaints.{Complaint, as-value, as-target, as-array, as-constant, is-known, when, bad-length, too-many, at, of-constant, has-word, twice, of-array, of-specification, of-specifications, of-expression, of-chain, of-operand, of-process, of-processes, complaints, earlier, Verdict, fine, refused, lesser, least}
+use Rattle.names.specs.Complaints.{Complaint, as-value, as-target, as-array, as-constant, is-known, when, bad-length, too-many, at, of-constant, has-word, twice, of-array, of-specification}
+use Rattle.names.specs.Complaints.{of-specifications, of-expression, of-chain, of-operand, of-process, of-processes, complaints, earlier, Verdict, fine, refused, lesser, least}
 
 -- ── numbers ──
 abbrev Numbered : List ℕ → Type 0
@@ -98,13 +100,16 @@ module _ (text : ℕ → List ℕ) (place : ℕ → ℕ) (end : ℕ) (places : (
   of-array-numbered s n c =
       numbered-append (twice text place s n) _ (twice-numbered s n)
       (numbered-pick (has-word text place s c) _ _
-      (numbered-append (when (bad-length (constant-word text s c)) refusal.bad-length) _ (numbered-when (bad-length (constant-word text s c)) refusal.bad-length (omega arith) (omega arith)) (numbered-when (too-many s (constant-word text s c)) refusal.too-much (omega arith) (omega arith)))
+      (numbered-append (when (bad-length (constant-word text s c)) refusal.bad-length) _
+      (numbered-when (bad-length (constant-word text s c)) refusal.bad-length (omega arith) (omega arith))
+      (numbered-when (too-many s (constant-word text s c)) refusal.too-much (omega arith) (omega arith)))
       (numbered-when (too-many s 0) refusal.too-much (omega arith) (omega arith)))
 
   specification-all : (d : Specification) (s : Scope) → All (of-specification text place d s)
   specification-all (var n) s = at-all n (twice text place s n ++ when (too-many s 1) refusal.too-much) (full-numbered s n 1)
   specification-all (grammar.array n c) s = join (at text place n (of-array text place s n c)) _ (at-all n (of-array text place s n c) (of-array-numbered s n c)) (constant-all s c)
-  specification-all (val n c) s = join (at text place n (twice text place s n ++ when (too-many s 0) refusal.too-much)) _ (at-all n (twice text place s n ++ when (too-many s 0) refusal.too-much) (full-numbered s n 0)) (constant-all s c)
+  specification-all (val n c) s = join (at text place n (twice text place s n ++ when (too-many s 0) refusal.too-much)) _
+      (at-all n (twice text place s n ++ when (too-many s 0) refusal.too-much) (full-numbered s n 0)) (constant-all s c)
   specification-all (commented d) s = specification-all d s
 
   specifications-all : (ds : List Specification) (s : Scope) → All (of-specifications text place ds s)
@@ -132,7 +137,8 @@ module _ (text : ℕ → List ℕ) (place : ℕ → ℕ) (end : ℕ) (places : (
     process-all skip s = tt
     process-all stop s = tt
     process-all (assign n e) s = join (at text place n (as-target (meaning-of text s n))) _ (use-all as-target target-numbered n s) (expression-all e s)
-    process-all (assign-element n i e) s = join (at text place n (as-array (meaning-of text s n))) _ (use-all as-array array-numbered n s) (join (of-expression text place i s) _ (expression-all i s) (expression-all e s))
+    process-all (assign-element n i e) s =
+        join (at text place n (as-array (meaning-of text s n))) _ (use-all as-array array-numbered n s) (join (of-expression text place i s) _ (expression-all i s) (expression-all e s))
     process-all empty s = tt
     process-all (braces ps) s = processes-all ps s
     process-all (conditional e p q) s = join (of-expression text place e s) _ (expression-all e s) (join (of-process text place p s) _ (process-all p s) (process-all q s))

@@ -4,7 +4,8 @@ use Prim.Native.Nat.{ℕ, _-_}
 use lib.Dec.{eqb}
 use Rattle.word.specs.Choice.{pick}
 use Rattle.spelling.specs.Kinds as kind
-use Rattle.grammar.specs.Grammar.{Specification, val, commented, Expression, single, monadic, diadic, Chain, last, more, Operand, element, bracketed, Process, skip, stop, assign, assign-element, empty, braces, conditional, while, after-comment, Processes, only, followed, Program, program}
+use Rattle.grammar.specs.Grammar.{Specification, val, commented, Expression, single, monadic, diadic, Chain, last, more, Operand, element, bracketed, Process, skip, stop, assign, assign-element}
+use Rattle.grammar.specs.Grammar.{empty, braces, conditional, while, after-comment, Processes, only, followed, Program, program}
 use Rattle.grammar.specs.Grammar as grammar
 use Rattle.program.specs.Tree as tree
 use Rattle.program.specs.Table.{diadic-of}

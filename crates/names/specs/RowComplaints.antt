@@ -8,7 +8,8 @@ use lib.ListN.{length, length-append}
 use lib.Dec.{eqb, ltb, leb}
 use borrow.Author.Tests.{ltb-true, ltb-false, eqb-true, eqb-false, leb-true, leb-false, lt-ltb, le-ltb, eq-eqb, le-leb}
 use Rattle.word.specs.Choice.{pick}
-use Rattle.grammar.specs.Grammar.{Expression, single, monadic, diadic, Chain, last, more, Operand, element, bracketed, Process, skip, stop, assign, assign-element, empty, braces, conditional, while, after-comment, Processes, only, followed}
+use Rattle.grammar.specs.Grammar.{Expression, single, monadic, diadic, Chain, last, more, Operand, element, bracketed, Process, skip, stop, assign, assign-element, empty, braces, conditional}
+use Rattle.grammar.specs.Grammar.{while, after-comment, Processes, only, followed}
 use Rattle.grammar.specs.Grammar as grammar
 use Rattle.grammar.specs.Rows as raw
 use Rattle.grammar.specs.RowLaws.{length-expression, length-chain, length-operand, length-process, length-processes}
@@ -171,11 +172,13 @@ module _ (text : ℕ → List ℕ) (place : ℕ → ℕ) (s : Scope) where
     same-E : (e : Expression) (n : ℕ) → Same (raw.rows-expression e n) (of-expression text place e s)
     same-E (single a) n = same-O a n
     same-E (monadic o a) n = same-plain (raw.count-operand a) layout.monadic _ _ _ (raw.rows-operand a n) _ (length-operand a n) refl (same-O a n)
-    same-E (diadic o a c) n = same-joined o (raw.count-operand a) (raw.count-chain c) _ _ (raw.rows-operand a n) (raw.rows-chain c o (n + raw.count-operand a)) _ _ (length-operand a n) (length-chain c o (n + raw.count-operand a)) (same-O a n) (same-C c o (n + raw.count-operand a))
+    same-E (diadic o a c) n = same-joined o (raw.count-operand a) (raw.count-chain c) _ _ (raw.rows-operand a n) (raw.rows-chain c o (n + raw.count-operand a)) _ _ (length-operand a n)
+        (length-chain c o (n + raw.count-operand a)) (same-O a n) (same-C c o (n + raw.count-operand a))
 
     same-C : (c : Chain) (o n : ℕ) → Same (raw.rows-chain c o n) (of-chain text place c s)
     same-C (last a) o n = same-O a n
-    same-C (more a c) o n = same-joined o (raw.count-operand a) (raw.count-chain c) _ _ (raw.rows-operand a n) (raw.rows-chain c o (n + raw.count-operand a)) _ _ (length-operand a n) (length-chain c o (n + raw.count-operand a)) (same-O a n) (same-C c o (n + raw.count-operand a))
+    same-C (more a c) o n = same-joined o (raw.count-operand a) (raw.count-chain c) _ _ (raw.rows-operand a n) (raw.rows-chain c o (n + raw.count-operand a)) _ _ (length-operand a n)
+        (length-chain c o (n + raw.count-operand a)) (same-O a n) (same-C c o (n + raw.count-operand a))
 
     same-O : (a : Operand) (n : ℕ) → Same (raw.rows-operand a n) (of-operand text place a s)
     same-O (grammar.constant v) n = record { is = ap least (one-row layout.number v 0 0) }

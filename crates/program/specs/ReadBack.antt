@@ -7,7 +7,8 @@ use lib.ListN.{length, getD, length-append, List·getD-append}
 use lib.Seq.{getD-append-add}
 use Rattle.program.specs.Layout.{row-words}
 use Rattle.program.specs.Layout as layout
-use Rattle.program.specs.Tree.{Monadic, negate, invert, Diadic, plus, minus, times, bit-and, bit-or, bit-xor, right, left, equal, unequal, less, at-most, greater, at-least, Variable, Array, Declaration, var, array, words-of, Program}
+use Rattle.program.specs.Tree.{Monadic, negate, invert, Diadic, plus, minus, times, bit-and, bit-or, bit-xor, right, left, equal, unequal, less, at-most, greater, at-least, Variable, Array}
+use Rattle.program.specs.Tree.{Declaration, var, array, words-of, Program}
 use Rattle.program.specs.Core.{Expression, constant, variable, element, monadic, diadic, Process, skip, stop, assign, assign-element, sequence, conditional, loop, core-process}
 use Rattle.program.specs.Rows.{monadic-number, diadic-number, row, count, rows, count-process, rows-process, row-of, declared-rows, table-of, row-count}
 use Rattle.program.specs.Table.{word, monadic-of, diadic-of, variable-in, array-in, expression-at, process-at}

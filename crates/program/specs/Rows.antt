@@ -3,7 +3,8 @@ use Prim.Native.Nat.{ℕ, _+_, _-_}
 use mathlib.Core.List.{List, [], _∷_, _++_}
 use lib.ListN.{length}
 use Rattle.program.specs.Layout as layout
-use Rattle.program.specs.Tree.{Monadic, negate, invert, Diadic, plus, minus, times, bit-and, bit-or, bit-xor, right, left, equal, unequal, less, at-most, greater, at-least, Declaration, var, array, words-of, Program}
+use Rattle.program.specs.Tree.{Monadic, negate, invert, Diadic, plus, minus, times, bit-and, bit-or, bit-xor, right, left, equal, unequal, less, at-most, greater, at-least, Declaration}
+use Rattle.program.specs.Tree.{var, array, words-of, Program}
 use Rattle.program.specs.Core.{Expression, constant, variable, element, monadic, diadic, Process, skip, stop, assign, assign-element, sequence, conditional, loop, core-process}
 
 -- The syntax table: "Monadic: 1 `-`, 2 not"

@@ -150,7 +150,8 @@ fn specifications(kinds: &[u8]) -> Front
 // Open: the table where the tokens are no program.
 pub fn program(kinds: &[u8], values: &[u32], table: &mut [u32; 4096]) -> Answer
     requires { ⌜ (length (now kinds) ≤ 1024) × (length (now kinds) ≤ length (now values)) × (Bounded (reads (unread (now kinds) (now values) 0))) ⌝ }
-    ensures { λ r. ⌜ (r ≡ answer (length (now (kinds .entry))) (reads (unread (now (kinds .entry)) (now (values .entry)) 0))) × Written (reads (unread (now (kinds .entry)) (now (values .entry)) 0)) (now (table .entry)) (now (table .exit)) ⌝ }
+    ensures { λ r. ⌜ (r ≡ answer (length (now (kinds .entry))) (reads (unread (now (kinds .entry)) (now (values .entry)) 0)))
+        × Written (reads (unread (now (kinds .entry)) (now (values .entry)) 0)) (now (table .entry)) (now (table .exit)) ⌝ }
 {
     let mut pending = [0u16; 1024];
     match specifications(kinds) {

@@ -8,7 +8,10 @@ use lib.ListN.{length, getD}
 use Rattle.word.specs.Choice.{pick}
 use Rattle.spelling.specs.Kinds as kind
 use Rattle.grammar.specs.Grammar.{is-monadic, is-diadic, is-associative}
-use Rattle.grammar.specs.Automaton.{ProcessContext, top, in-braces, in-then, in-else, in-body, in-comment, ListContext, opened, also, ExpressionContext, in-assign, in-target, in-assign-element, in-if, in-while, in-brackets, in-subscript, OperandContext, first, under, next, ChainContext, after, link, Partial, var-read, array-read, array-named, array-opened, array-sized, val-read, val-named, val-equated, whole, State, at-front, specifying, need-process, brace-opened, target, target-element, have-process, need-expression, need-operand, name-read, have-operand, have-expression}
+use Rattle.grammar.specs.Automaton.{ProcessContext, top, in-braces, in-then, in-else, in-body, in-comment, ListContext, opened, also, ExpressionContext, in-assign, in-target, in-assign-element}
+use Rattle.grammar.specs.Automaton.{in-if, in-while, in-brackets, in-subscript, OperandContext, first, under, next, ChainContext, after, link, Partial, var-read, array-read, array-named}
+use Rattle.grammar.specs.Automaton.{array-opened, array-sized, val-read, val-named, val-equated, whole, State, at-front, specifying, need-process, brace-opened, target, target-element}
+use Rattle.grammar.specs.Automaton.{have-process, need-expression, need-operand, name-read, have-operand, have-expression}
 use Rattle.grammar.specs.Depth.{depth-limit}
 use Rattle.program.specs.Layout.{row-words}
 use Rattle.recognizer.specs.Modes as mode
@@ -271,7 +274,8 @@ abbrev pub after-name : ℕ → ℕ → Frame → ℕ → Action
 after-name o l f k = pick (eqb k kind.open-subscript) (enter mode.need-expression (deeper l) subscript-open o l) (after-operand o l f k)
 
 abbrev pub in-expression : ℕ → ℕ → ℕ → Frame → ℕ → Action
-in-expression m o l f k = pick (eqb m mode.need-expression) (start-expression l k) (pick (eqb m mode.need-operand) (start-operand o l k) (pick (eqb m mode.name-read) (after-name o l f k) (after-operand o l f k)))
+in-expression m o l f k = pick (eqb m mode.need-expression) (start-expression l k)
+    (pick (eqb m mode.need-operand) (start-operand o l k) (pick (eqb m mode.name-read) (after-name o l f k) (after-operand o l f k)))
 
 abbrev pub decide : ℕ → ℕ → ℕ → Frame → ℕ → Action
 decide m o l f k = pick (eqb m mode.front) (start-program k) (pick (ltb m mode.need-process) (specify m k) (pick (ltb m mode.need-expression) (in-process m l f k) (in-expression m o l f k)))

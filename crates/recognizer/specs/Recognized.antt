@@ -7,7 +7,9 @@ use native.Mathlib.Omega.{arith}
 use lib.ListN.{length, getD}
 use Rattle.word.specs.Choice.{pick}
 use Rattle.grammar.specs.Grammar.{Token, Program}
-use Rattle.grammar.specs.Automaton.{Partial, var-read, array-read, array-named, array-opened, array-sized, val-read, val-named, val-equated, whole, State, at-front, specifying, need-process, brace-opened, target, target-element, have-process, need-expression, need-operand, name-read, have-operand, have-expression, Move, go, none, step, Reading, accepted, refused, final, onward, run, reads}
+use Rattle.grammar.specs.Automaton.{Partial, var-read, array-read, array-named, array-opened, array-sized, val-read, val-named, val-equated, whole, State, at-front, specifying, need-process}
+use Rattle.grammar.specs.Automaton.{brace-opened, target, target-element, have-process, need-expression, need-operand, name-read, have-operand, have-expression, Move, go, none, step, Reading}
+use Rattle.grammar.specs.Automaton.{accepted, refused, final, onward, run, reads}
 use Rattle.grammar.specs.Tokens.{token-of, unread}
 use Rattle.grammar.specs.Unread.{unread-cons, unread-end, length-unread}
 use Rattle.grammar.specs.Depth.{depth, deepest, depth-limit}
@@ -75,7 +77,9 @@ module _ (kinds values : List ℕ) where
 
     after : (m : Move) → step (h .state) t ≡ m → reads (unread kinds values 0) ≡ onward m (unread kinds values i) (run (unread kinds values (i + 1)))
     unfolding run
-    after m q = h .comes ∙ ap (λ (w : List Token). run w (h .state)) (unread-cons kinds values i b) ∙ ap (λ (m : Move). onward m (t ∷ unread kinds values (i + 1)) (run (unread kinds values (i + 1)))) q ∙ ap (λ (w : List Token). onward m w (run (unread kinds values (i + 1)))) (sym (unread-cons kinds values i b))
+    after m q = h .comes ∙ ap (λ (w : List Token). run w (h .state)) (unread-cons kinds values i b)
+        ∙ ap (λ (m : Move). onward m (t ∷ unread kinds values (i + 1)) (run (unread kinds values (i + 1)))) q
+        ∙ ap (λ (w : List Token). onward m w (run (unread kinds values (i + 1)))) (sym (unread-cons kinds values i b))
 
     pub stands-bad : c′ .mode ≡ mode.refused → Says (length kinds) (reads (unread kinds values 0)) (answer.Bad i)
     stands-bad z = by (step (h .state) t) refl onto
@@ -99,7 +103,8 @@ module _ (kinds values : List ℕ) where
 
   pub stands-last : (i : ℕ) (c : Configuration) (deep : Bool) → Stands i c deep → i ≤ length kinds → length kinds ≤ i → Says (length kinds) (reads (unread kinds values 0)) (ended (complete c) deep i)
   unfolding run
-  stands-last i c deep h a b = subst (λ (d : Configuration). Says (length kinds) (reads (unread kinds values 0)) (ended (complete d) deep i)) (h .same) (by (final (h .state)) (complete (configuration (h .state))) refl (finishes (h .state)) deep (h .levels))
+  stands-last i c deep h a b = subst (λ (d : Configuration). Says (length kinds) (reads (unread kinds values 0)) (ended (complete d) deep i)) (h .same)
+      (by (final (h .state)) (complete (configuration (h .state))) refl (finishes (h .state)) deep (h .levels))
     where
       there : reads (unread kinds values 0) ≡ final (h .state)
       there = h .comes ∙ ap (λ (w : List Token). run w (h .state)) (unread-end kinds values i b)

@@ -55,7 +55,12 @@ before (v ∷ vs) l i j h = before vs (set l i v) (suc i) j (omega arith) ∙ ge
 frames-kept : (t vs : List ℕ) (n h : ℕ) → h ≤ n → frames (sets t (row-words * n) vs) h ≡ frames t h
 unfolding frames
 frames-kept t vs n zero l = refl
-frames-kept t vs n (suc h) l = rw (before vs t (row-words * n) (row-words * h) (omega arith), before vs t (row-words * n) (row-words * h + 1) (omega arith), before vs t (row-words * n) (row-words * h + 2) (omega arith), frames-kept t vs n h (omega arith))
+frames-kept t vs n (suc h) l = rw (
+  before vs t (row-words * n) (row-words * h) (omega arith),
+  before vs t (row-words * n) (row-words * h + 1) (omega arith),
+  before vs t (row-words * n) (row-words * h + 2) (omega arith),
+  frames-kept t vs n h (omega arith),
+)
 
 module _ (t : List ℕ) (n a b c d : ℕ) (room : row-words * n + row-words ≤ length t) where
   at-mark : getD (sets t (row-words * n) (row a b c d)) (row-words * n) 0 ≡ a
@@ -63,13 +68,17 @@ module _ (t : List ℕ) (n a b c d : ℕ) (room : row-words * n + row-words ≤ 
 
   at-operator : getD (sets t (row-words * n) (row a b c d)) (row-words * n + 1) 0 ≡ b
   at-operator =
-      ap (λ (j : ℕ). getD (sets t (row-words * n) (row a b c d)) j 0) (omega arith) ∙ before (c ∷ d ∷ []) (set (set t (row-words * n) a) (suc (row-words * n)) b) (suc (suc (row-words * n))) (suc (row-words * n)) (omega arith)
+      ap (λ (j : ℕ). getD (sets t (row-words * n) (row a b c d)) j 0) (omega arith)
+      ∙ before (c ∷ d ∷ []) (set (set t (row-words * n) a) (suc (row-words * n)) b) (suc (suc (row-words * n))) (suc (row-words * n)) (omega arith)
       ∙ getD-set-same (set t (row-words * n) a) (suc (row-words * n)) b 0 (omega (arith, length-set t (row-words * n) a))
 
   at-level : getD (sets t (row-words * n) (row a b c d)) (row-words * n + 2) 0 ≡ c
   at-level =
-      ap (λ (j : ℕ). getD (sets t (row-words * n) (row a b c d)) j 0) (omega arith) ∙ before (d ∷ []) (set (set (set t (row-words * n) a) (suc (row-words * n)) b) (suc (suc (row-words * n))) c) (suc (suc (suc (row-words * n)))) (suc (suc (row-words * n))) (omega arith)
-      ∙ getD-set-same (set (set t (row-words * n) a) (suc (row-words * n)) b) (suc (suc (row-words * n))) c 0 (omega (arith, length-set t (row-words * n) a, length-set (set t (row-words * n) a) (suc (row-words * n)) b))
+      ap (λ (j : ℕ). getD (sets t (row-words * n) (row a b c d)) j 0) (omega arith)
+      ∙ before (d ∷ []) (set (set (set t (row-words * n) a) (suc (row-words * n)) b) (suc (suc (row-words * n))) c) (suc (suc (suc (row-words * n)))) (suc (suc (row-words * n)))
+      (omega arith)
+      ∙ getD-set-same (set (set t (row-words * n) a) (suc (row-words * n)) b) (suc (suc (row-words * n))) c 0
+      (omega (arith, length-set t (row-words * n) a, length-set (set t (row-words * n) a) (suc (row-words * n)) b))
 
   frames-pushed : frames (sets t (row-words * n) (row a b c d)) (n + 1) ≡ frame a b c ∷ frames t n
   frames-pushed = frames-some (sets t (row-words * n) (row a b c d)) (n + 1) n refl ∙ rw (at-mark, at-operator, at-level, frames-kept t (row a b c d) n n (omega arith))
@@ -88,7 +97,8 @@ popped-low h false = omega arith
 pub act-kept : (t : List ℕ) (h : ℕ) (a : Action) → a .pushed .mark ≡ 0 → at (a .mode) (a .operator) (a .level) (frames t (popped h (a .pops))) ≡ act a (frames t h)
 act-kept t h a e = rw (e, frames-popped t h (a .pops))
 
-pub act-pushed : (t t′ : List ℕ) (h n : ℕ) (a : Action) → ¬ (a .pushed .mark ≡ 0) → n ≡ popped h (a .pops) → length t ≡ 4096 → h < 1024 → t′ ≡ sets t (row-words * n) (row (a .pushed .mark) (a .pushed .operator) (a .pushed .level) 0) → at (a .mode) (a .operator) (a .level) (frames t′ (n + 1)) ≡ act a (frames t h)
+pub act-pushed : (t t′ : List ℕ) (h n : ℕ) (a : Action) → ¬ (a .pushed .mark ≡ 0) → n ≡ popped h (a .pops) → length t ≡ 4096 → h < 1024
+    → t′ ≡ sets t (row-words * n) (row (a .pushed .mark) (a .pushed .operator) (a .pushed .level) 0) → at (a .mode) (a .operator) (a .level) (frames t′ (n + 1)) ≡ act a (frames t h)
 act-pushed t t′ h n a z e l b s =
     rw (s, frames-pushed t n (a .pushed .mark) (a .pushed .operator) (a .pushed .level) 0 (omega (arith, popped-low h (a .pops))), ne-eqb (a .pushed .mark) 0 z, e, frames-popped t h (a .pops))
 

@@ -56,7 +56,8 @@ only sort right = pick (eqb sort name-sort.undeclared) refusal.not-declared (pic
 
 -- by the row's kind: a value, a target, an array
 unfoldable pub complaint : ℕ → ℕ → ℕ
-complaint k sort = pick (eqb k layout.variable) (unless sort name-sort.array) (pick (eqb k layout.assign) (only sort name-sort.var) (pick (eqb k layout.element) (only sort name-sort.array) (pick (eqb k layout.assign-element) (only sort name-sort.array) 0)))
+complaint k sort = pick (eqb k layout.variable) (unless sort name-sort.array)
+    (pick (eqb k layout.assign) (only sort name-sort.var) (pick (eqb k layout.element) (only sort name-sort.array) (pick (eqb k layout.assign-element) (only sort name-sort.array) 0)))
 
 -- row r of a table, its name standing for m
 abbrev pub resolved-by : Meaning → List ℕ → ℕ → List ℕ
@@ -202,7 +203,9 @@ module _ (text : ℕ → List ℕ) (place : ℕ → ℕ) where
   row-verdict k n m = by (eqb k layout.variable) (eqb k layout.assign) (eqb k layout.element) (eqb k layout.assign-element)
     where
       by : (w x y z : Bool)
-          → judged-by (pick w (unless (sort-of m) name-sort.array) (pick x (only (sort-of m) name-sort.var) (pick y (only (sort-of m) name-sort.array) (pick z (only (sort-of m) name-sort.array) 0)))) (place n)
+          → judged-by
+          (pick w (unless (sort-of m) name-sort.array) (pick x (only (sort-of m) name-sort.var) (pick y (only (sort-of m) name-sort.array) (pick z (only (sort-of m) name-sort.array) 0))))
+          (place n)
           ≡ least (at text place n (pick w (as-value m) (pick x (as-target m) (pick y (as-array m) (pick z (as-array m) [])))))
       by true x y z = value-verdict n m
       by false true y z = target-verdict n m

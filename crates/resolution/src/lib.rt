@@ -182,7 +182,11 @@ fn walk_rows(
     end: usize,
 ) -> Found
     requires { ⌜ end ≤ 1024 ⌝ }
-    ensures { λ r. ⌜ walked (now (table .exit)) (verdict r) ≡ walk («text-at» (now (source .entry)) (now (places .entry)) (now (lengths .entry))) («place-at» (now (places .entry))) («scope-of» (view (now (source .entry)) (arrays (now («name_places» .entry)) (now («name_lengths» .entry)) (now (rows .entry)) (now (sorts .entry)) (now (words .entry)) (now (sizes .entry))) count)) (end - first) (now (table .entry)) first Complaints.fine ⌝ }
+    ensures { λ r. ⌜ walked (now (table .exit)) (verdict r)
+        ≡ walk («text-at» (now (source .entry)) (now (places .entry)) (now (lengths .entry))) («place-at» (now (places .entry)))
+        («scope-of» (view (now (source .entry))
+        (arrays (now («name_places» .entry)) (now («name_lengths» .entry)) (now (rows .entry)) (now (sorts .entry)) (now (words .entry)) (now (sizes .entry))) count)) (end - first)
+        (now (table .entry)) first Complaints.fine ⌝ }
 {
     let mut least = Found {
         number: 0,
@@ -236,7 +240,11 @@ pub fn resolve(
     end: usize,
 ) -> Found
     requires { ⌜ end ≤ 1024 ⌝ }
-    ensures { λ r. ⌜ walked (now (table .exit)) (verdict r) ≡ walk («text-at» (now (source .entry)) (now (places .entry)) (now (lengths .entry))) («place-at» (now (places .entry))) («scope-of» (view (now (source .entry)) (arrays (now («name_places» .entry)) (now («name_lengths» .entry)) (now (rows .entry)) (now (sorts .entry)) (now (words .entry)) (now (sizes .entry))) count)) (end - first) (now (table .entry)) first Complaints.fine ⌝ }
+    ensures { λ r. ⌜ walked (now (table .exit)) (verdict r)
+        ≡ walk («text-at» (now (source .entry)) (now (places .entry)) (now (lengths .entry))) («place-at» (now (places .entry)))
+        («scope-of» (view (now (source .entry))
+        (arrays (now («name_places» .entry)) (now («name_lengths» .entry)) (now (rows .entry)) (now (sorts .entry)) (now (words .entry)) (now (sizes .entry))) count)) (end - first)
+        (now (table .entry)) first Complaints.fine ⌝ }
 {
     walk_rows(
         source,

@@ -16,7 +16,8 @@ use Rattle.program.specs.Tree.{Monadic, negate, Diadic, plus, minus, times, bit
 use Rattle.program.specs.Core.{core, core-process, core-list}
 use Rattle.rules.specs.Bytes.{bytes-of, bytes, size}
 use Rattle.rules.specs.Constant.{spans-byte, load-constant}
-use Rattle.rules.specs.Blocks.{push-constant, push-variable, check-subscript, load-element, work-monadic-code, less-than, far-shift, diadic-instructions, work-diadic-code, assign-variable, store-element, take-condition}
+use Rattle.rules.specs.Blocks.{push-constant, push-variable, check-subscript, load-element, work-monadic-code, less-than, far-shift, diadic-instructions, work-diadic-code, assign-variable}
+use Rattle.rules.specs.Blocks.{store-element, take-condition}
 use Rattle.rules.specs.Code.{expression-code, choice-code, repeat-code, process-code, image-code, image}
 use Rattle.rules.specs.Laws.{list-code}
 use Rattle.rules.specs.Tokens.{tokens-of, process-tokens, list-tokens}

@@ -74,7 +74,8 @@ unfolding numeral
 numeral-cut base h [] a b e = e
 numeral-cut base h (x ∷ bs) a b e = go (digit base x) (numeral-cut base h bs (a * base + digit-value x) (b * base + digit-value x) (push-cut base a b (digit-value x) h e))
   where
-    go : (t : Bool) → min (numeral base bs (a * base + digit-value x)) 4294967296 ≡ min (numeral base bs (b * base + digit-value x)) 4294967296 → min (pick t (numeral base bs (a * base + digit-value x)) a) 4294967296 ≡ min (pick t (numeral base bs (b * base + digit-value x)) b) 4294967296
+    go : (t : Bool) → min (numeral base bs (a * base + digit-value x)) 4294967296 ≡ min (numeral base bs (b * base + digit-value x)) 4294967296
+        → min (pick t (numeral base bs (a * base + digit-value x)) a) 4294967296 ≡ min (pick t (numeral base bs (b * base + digit-value x)) b) 4294967296
     go true i = i
     go false i = e
 

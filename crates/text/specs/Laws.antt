@@ -11,7 +11,7 @@ use lib.Seq.{take-all, take-append-le, take-suc-set}
 use lib.Dec.{ltb}
 use Rattle.word.specs.Choice.{pick}
 use Rattle.word.specs.ChoiceLaws.{by-test}
-use Rattle.text.specs.Text.{fitted, digit, digits, decimal, entry, summary}
+use Rattle.text.specs.Text.{fitted, digit, digits, decimal, summary}
 
 -- what was cut off before is cut off after
 pub fitted-then : (xs ys : List ℕ) → fitted (fitted xs ++ ys) ≡ fitted (xs ++ ys)

@@ -102,7 +102,12 @@ symbol-good b c left one two =
     holds (Good left) (eqb (double b c) 0) (pick (eqb (single b) 0) (Broken refusal.broken-token) (Token (single b) 1 0)) (Token (double b c) 2 0)
     (λ e. holds (Good left) (eqb (single b) 0) (Broken refusal.broken-token) (Token (single b) 1 0) (λ f. broken left)
     (λ f. record { some = omega arith; inside = one; matching = plain-matched 1 (single b) (single-plain 1 b) f; short = λ _. omega arith }))
-    (λ e. record { some = omega arith; inside = two (λ z. eqb-false (double b c) 0 e (ap (double b) z ∙ double-none b)); matching = plain-matched 2 (double b c) (double-plain 2 b c) e; short = λ _. omega arith })
+    (λ e. record {
+      some = omega arith;
+      inside = two (λ z. eqb-false (double b c) 0 e (ap (double b) z ∙ double-none b));
+      matching = plain-matched 2 (double b c) (double-plain 2 b c) e;
+      short = λ _. omega arith;
+    })
 
 -- comments and numbers
 
@@ -144,7 +149,8 @@ one-of-below m (x ∷ xs) b a e =
 
 letter-below : (b : ℕ) → letter b ≡ true → b < 256
 letter-below b e =
-    ⊎-elim (λ f. let h = leb-true b 122 (both (leb 97 b) (leb b 122) f .1) in omega arith) (λ f. let h = leb-true b 90 (both (leb 65 b) (leb b 90) f .1) in omega arith) (either (within 97 122 b) (within 65 90 b) e)
+    ⊎-elim (λ f. let h = leb-true b 122 (both (leb 97 b) (leb b 122) f .1) in omega arith) (λ f. let h = leb-true b 90 (both (leb 65 b) (leb b 90) f .1) in omega arith)
+    (either (within 97 122 b) (within 65 90 b) e)
 
 digit-below : (b : ℕ) → digit 10 b ≡ true → b < 256
 unfolding digit-value

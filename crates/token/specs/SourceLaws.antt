@@ -1,19 +1,19 @@
 -- What later passes rest on: each token of a source lies in it, kinds and values go together, places ascend; what a refusal's number and place can be.
 -- Claims and laws. Rests on Tokens and LexemeLaws.
-use mathlib.Core.Path.{_≡_, sym, subst}
+use mathlib.Core.Path.{_≡_, subst}
 use mathlib.Core.Bool.{Bool, true, false}
 use mathlib.Core.List.{List, [], _∷_}
 use Prim.Native.Nat.{ℕ, zero, suc, _+_, _-_, _<_, _≤_}
 use native.Mathlib.Omega.{arith}
 use lib.Dec.{eqb, leb, ltb}
-use lib.ListN.{length, getD}
-use borrow.Author.Tests.{ne-eqb, eqb-true, eqb-false, leb-true, ltb-true}
+use lib.ListN.{length}
+use borrow.Author.Tests.{ne-eqb, eqb-true, leb-true, ltb-true}
 use Rattle.word.specs.Choice.{pick}
 use Rattle.word.specs.ChoiceLaws.{by-test, both}
 use Rattle.spelling.specs.Kinds as kinds
 use Rattle.token.specs.Refusals as refusal
 use Rattle.token.specs.Lexemes.{lexeme}
-use Rattle.token.specs.Tokens.{Entry, Outcome, read, refused, also, taken, scan, outcome, entries}
+use Rattle.token.specs.Tokens.{Entry, Outcome, read, refused, also, taken, scan, outcome}
 use Rattle.token.specs.LexemeLaws.{known, matched, Fits, Good, lexeme-good}
 use Rattle.token.specs.declared.Lexeme.{Lexeme}
 use Rattle.token.specs.declared.Lexeme.the-variants.{Separator, Token, Broken}
@@ -90,4 +90,5 @@ sound-scan size m (b ∷ bs) zero p c h =
 -- every outcome is sound: the tokens lie in the source at ascending places, a refusal's number is 1 to 5 and its place in the source, at most 16,384
 pub outcome-sound : (s : List ℕ) → Sound (length s) 0 (outcome s)
 unfolding outcome
-outcome-sound s = by-test (λ (b : Bool). Sound (length s) 0 (pick b (scan s 0 0 0) (refused refusal.long-source 0))) (leb (length s) 16384) (λ e. sound-scan (length s) (leb-true (length s) 16384 e) s 0 0 0 (omega arith)) (λ _. (omega arith, omega arith, omega arith, omega arith))
+outcome-sound s = by-test (λ (b : Bool). Sound (length s) 0 (pick b (scan s 0 0 0) (refused refusal.long-source 0))) (leb (length s) 16384)
+    (λ e. sound-scan (length s) (leb-true (length s) 16384 e) s 0 0 0 (omega arith)) (λ _. (omega arith, omega arith, omega arith, omega arith))

@@ -43,7 +43,8 @@ pub record Parts (rows : List ℕ) (table code tokens count words depth : ℕ) (
   pub depth-is : depth ≡ deepest (q .body)
 
 -- what the front end found are such parts
-pub found-parts : (source rows : List ℕ) (table code tokens count words depth : ℕ) (f : Found (front source table code) rows tokens count words depth) → Parts rows table code tokens count words depth (f .tree)
+pub found-parts : (source rows : List ℕ) (table code tokens count words depth : ℕ) (f : Found (front source table code) rows tokens count words depth)
+    → Parts rows table code tokens count words depth (f .tree)
 found-parts source rows table code tokens count words depth f = record {
   sound = accepted-sound source table code tokens (f .tree) (f .outcome);
   fits = accepted-fits source table code tokens (f .tree) (f .outcome);

@@ -6,7 +6,9 @@ use native.Mathlib.Omega.{arith}
 use lib.ListN.{length}
 use Rattle.spelling.specs.Kinds as kind
 use Rattle.token.specs.Tokens.{Entry}
-use Rattle.grammar.specs.Grammar.{Token, mark, Expression, single, monadic, diadic, Chain, last, more, Operand, element, bracketed, Process, skip, stop, assign, assign-element, empty, braces, conditional, while, after-comment, Processes, only, followed, Program, program, text-expression, text-chain, text-operand, text-process, text-processes, text-program}
+use Rattle.grammar.specs.Grammar.{Token, mark, Expression, single, monadic, diadic, Chain, last, more, Operand, element, bracketed, Process, skip, stop, assign, assign-element, empty, braces}
+use Rattle.grammar.specs.Grammar.{conditional, while, after-comment, Processes, only, followed, Program, program, text-expression, text-chain, text-operand, text-process, text-processes}
+use Rattle.grammar.specs.Grammar.{text-program}
 use Rattle.grammar.specs.Grammar as grammar
 use Rattle.program.specs.Tree as tree
 use Rattle.grammar.specs.FewRows.{few-P, few-Ss}
@@ -75,7 +77,12 @@ module _ (text : ℕ → List ℕ) (s : Scope) where
     tokens-P stop w = omega arith
     tokens-P (assign n e) w = omega (arith, assigned-tokens (meaning-of text s n) (resolve.expression text e s), tokens-E e w)
     tokens-P (assign-element n i e) w =
-        omega (arith, stored-tokens (meaning-of text s n) (resolve.expression text i s) (resolve.expression text e s), tokens-E i (mark kind.close-subscript ∷ mark kind.becomes ∷ text-expression e w), tokens-E e w)
+        omega (
+          arith,
+          stored-tokens (meaning-of text s n) (resolve.expression text i s) (resolve.expression text e s),
+          tokens-E i (mark kind.close-subscript ∷ mark kind.becomes ∷ text-expression e w),
+          tokens-E e w,
+        )
     tokens-P empty w = omega arith
     tokens-P (braces ps) w = omega (arith, tokens-L ps (mark kind.close-brace ∷ w))
     tokens-P (conditional e p q) w =
@@ -89,7 +96,8 @@ module _ (text : ℕ → List ℕ) (s : Scope) where
 
 module _ (text : ℕ → List ℕ) where
   -- no more rows than tokens, and the image's own tokens are among them
-  pub rows-and-tokens : (place : ℕ → ℕ) (p : Program) → complaints text place p ≡ [] → (row-count (resolve.resolve text p) ≤ length (text-program p)) × (process-tokens (resolve.resolve text p .body) ≤ length (text-program p))
+  pub rows-and-tokens : (place : ℕ → ℕ) (p : Program) → complaints text place p ≡ []
+      → (row-count (resolve.resolve text p) ≤ length (text-program p)) × (process-tokens (resolve.resolve text p .body) ≤ length (text-program p))
   unfolding row-count
   rows-and-tokens place (program ds p) h =
       let s = declare-all text ds empty-scope in

@@ -63,7 +63,8 @@ fn fill_table(rows: &[u32], count: usize, table: &mut [u32])
 // The image of the rows into the lent code buffer, the rest of which is zeroed.
 fn fill_code(rows: &[u32], count: usize, code: &mut [u8]) -> usize
     requires { ⌜ (0 < count) × (WellProcess (now rows) (count - 1) × Room (now code) 0 (rules.«image-code» («process-at» (now rows) (count - 1)))) ⌝ }
-    ensures { λ r. ⌜ ((q : tree.Program) → Sound q → Holds (now (rows .entry)) 0 («table-of» q) → count ≡ «row-count» q → length (rules.image q) ≤ length (now (code .entry)) → (now (code .exit) ≡ filled (length (now (code .entry))) (rules.image q)) × (r ≡ length (rules.image q))) ⌝ }
+    ensures { λ r. ⌜ ((q : tree.Program) → Sound q → Holds (now (rows .entry)) 0 («table-of» q) → count ≡ «row-count» q → length (rules.image q) ≤ length (now (code .entry))
+        → (now (code .exit) ≡ filled (length (now (code .entry))) (rules.image q)) × (r ≡ length (rules.image q))) ⌝ }
 {
     let end = image(rows, count, code);
     clear_bytes(code, end);
@@ -81,7 +82,8 @@ fn accept(
     code: &mut [u8],
 ) -> Translation
     requires { ⌜ (length (now rows) ≡ 4096) × ((q : tree.Program) × Parts (now rows) (length (now table)) (length (now code)) tokens count words depth q) ⌝ }
-    ensures { λ r. ⌜ ((q : tree.Program) → Parts (now (rows .entry)) (length (now (table .entry))) (length (now (code .entry))) tokens count words depth q → left r (now (table .exit)) (now (code .exit)) ≡ translated (length (now (table .entry))) (length (now (code .entry))) (front.accepted tokens q)) ⌝ }
+    ensures { λ r. ⌜ ((q : tree.Program) → Parts (now (rows .entry)) (length (now (table .entry))) (length (now (code .entry))) tokens count words depth q
+        → left r (now (table .exit)) (now (code .exit)) ≡ translated (length (now (table .entry))) (length (now (code .entry))) (front.accepted tokens q)) ⌝ }
 {
     fill_table(rows, count, table);
     let end = fill_code(rows, count, code);
@@ -107,7 +109,8 @@ fn accept_rows(
     code: &mut [u8],
 ) -> Translation
     requires { ⌜ ((q : tree.Program) × Parts (now rows) (length (now table)) (length (now code)) tokens count words depth q) ⌝ }
-    ensures { λ r. ⌜ ((q : tree.Program) → Parts (now (rows .entry)) (length (now (table .entry))) (length (now (code .entry))) tokens count words depth q → left r (now (table .exit)) (now (code .exit)) ≡ translated (length (now (table .entry))) (length (now (code .entry))) (front.accepted tokens q)) ⌝ }
+    ensures { λ r. ⌜ ((q : tree.Program) → Parts (now (rows .entry)) (length (now (table .entry))) (length (now (code .entry))) tokens count words depth q
+        → left r (now (table .exit)) (now (code .exit)) ≡ translated (length (now (table .entry))) (length (now (code .entry))) (front.accepted tokens q)) ⌝ }
 {
     accept(rows, tokens, count, words, depth, table, code)
 }

@@ -32,7 +32,8 @@ Expression = Earlier layout.number layout.diadic
 abbrev pub Process : List ℕ → ℕ → ℕ → Type 0
 Process = Earlier layout.skip layout.while
 
--- The syntax table: "4 variable (its row); 5 element (array row, subscript row); 6 monadic (operator, row); 7 diadic (operator, left, right); 10 assign (var row, value); 11 assign element (array row, subscript, value); 12 two in sequence; 13 if (condition, then, else); 14 while (condition, body)"
+-- The syntax table: "4 variable (its row); 5 element (array row, subscript row); 6 monadic (operator, row); 7 diadic (operator, left, right); 10 assign (var row, value); 11 assign element
+-- (array row, subscript, value); 12 two in sequence; 13 if (condition, then, else); 14 while (condition, body)"
 unfoldable pub Names : List ℕ → ℕ → Type 0
 Names t r =
     pick (eqb (word t r 0) layout.variable) (Declared t r (word t r 1))

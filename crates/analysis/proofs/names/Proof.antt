@@ -15,6 +15,33 @@ names-spec =
     (λ c. search needs)
     (λ c. search needs)
     (λ c κs. search needs)
-    (λ c. λ p ready. let a = c .before .before .before .before .before .before .before .before .before .before .before .before .before .before .before .args in names-refused (a .source .now) (a .kinds .now) (a .places .now) (a .values .now) p (a .start) (a .rows) (a .depth) (a .table .now) ready _ _ (subst (λ (r : Progress). Bound (a .source .now) (a .kinds .now) (a .places .now) (a .values .now) (a .start) (a .table .now) (c .before .before .before .bind .last .1 .1 .1 .1 .1 .1 .1 .1 .1 .1 .0) (arrays (c .before .before .before .bind .last .1 .1 .1 .1 .0) (c .before .before .before .bind .last .1 .1 .1 .1 .1 .0) (c .before .before .before .bind .last .1 .1 .1 .1 .1 .1 .0) (c .before .before .before .bind .last .1 .1 .1 .1 .1 .1 .1 .0) (c .before .before .before .bind .last .1 .1 .1 .1 .1 .1 .1 .1 .0) (c .before .before .before .bind .last .1 .1 .1 .1 .1 .1 .1 .1 .1 .0)) r) (c .before .b .given .1) (c .before .before .before .bind .ensures)))
-    (λ c. λ p ready. let a = c .before .before .before .before .before .before .before .before .before .before .before .before .before .before .before .before .before .before .before .before .before .before .before .before .before .args in names-accepted (a .source .now) (a .kinds .now) (a .places .now) (a .values .now) p (a .start) (a .rows) (a .depth) (a .table .now) ready (c .before .before .before .before .before .before .before .before .before .before .before .before .before .bind .last .1 .1 .1 .1 .1 .1 .1 .1 .1 .1 .0) (arrays (c .before .before .before .before .before .before .before .before .before .before .before .before .before .bind .last .1 .1 .1 .1 .0) (c .before .before .before .before .before .before .before .before .before .before .before .before .before .bind .last .1 .1 .1 .1 .1 .0) (c .before .before .before .before .before .before .before .before .before .before .before .before .before .bind .last .1 .1 .1 .1 .1 .1 .0) (c .before .before .before .before .before .before .before .before .before .before .before .before .before .bind .last .1 .1 .1 .1 .1 .1 .1 .0) (c .before .before .before .before .before .before .before .before .before .before .before .before .before .bind .last .1 .1 .1 .1 .1 .1 .1 .1 .0) (c .before .before .before .before .before .before .before .before .before .before .before .before .before .bind .last .1 .1 .1 .1 .1 .1 .1 .1 .1 .0)) _ _ _ (subst (λ (r : Progress). Bound (a .source .now) (a .kinds .now) (a .places .now) (a .values .now) (a .start) (a .table .now) (c .before .before .before .before .before .before .before .before .before .before .before .before .before .bind .last .1 .1 .1 .1 .1 .1 .1 .1 .1 .1 .0) (arrays (c .before .before .before .before .before .before .before .before .before .before .before .before .before .bind .last .1 .1 .1 .1 .0) (c .before .before .before .before .before .before .before .before .before .before .before .before .before .bind .last .1 .1 .1 .1 .1 .0) (c .before .before .before .before .before .before .before .before .before .before .before .before .before .bind .last .1 .1 .1 .1 .1 .1 .0) (c .before .before .before .before .before .before .before .before .before .before .before .before .before .bind .last .1 .1 .1 .1 .1 .1 .1 .0) (c .before .before .before .before .before .before .before .before .before .before .before .before .before .bind .last .1 .1 .1 .1 .1 .1 .1 .1 .0) (c .before .before .before .before .before .before .before .before .before .before .before .before .before .bind .last .1 .1 .1 .1 .1 .1 .1 .1 .1 .0)) r) (c .before .before .before .before .before .before .before .before .before .before .before .b2 .given .1) (c .before .before .before .before .before .before .before .before .before .before .before .before .before .bind .ensures)) (c .before .before .resolve .last .1 .1 .1 .1 .1 .1 .1 .1 .1 .1 .0) (c .before .before .resolve .result) (c .before .before .resolve .ensures) (c .if1 .taken))
-    (λ c. λ p ready. let a = c .before .before .before .before .before .before .before .before .before .before .before .before .before .before .before .before .before .before .before .before .before .before .before .before .before .args in names-row-refused (a .source .now) (a .kinds .now) (a .places .now) (a .values .now) p (a .start) (a .rows) (a .depth) (a .table .now) ready (c .before .before .before .before .before .before .before .before .before .before .before .before .before .bind .last .1 .1 .1 .1 .1 .1 .1 .1 .1 .1 .0) (arrays (c .before .before .before .before .before .before .before .before .before .before .before .before .before .bind .last .1 .1 .1 .1 .0) (c .before .before .before .before .before .before .before .before .before .before .before .before .before .bind .last .1 .1 .1 .1 .1 .0) (c .before .before .before .before .before .before .before .before .before .before .before .before .before .bind .last .1 .1 .1 .1 .1 .1 .0) (c .before .before .before .before .before .before .before .before .before .before .before .before .before .bind .last .1 .1 .1 .1 .1 .1 .1 .0) (c .before .before .before .before .before .before .before .before .before .before .before .before .before .bind .last .1 .1 .1 .1 .1 .1 .1 .1 .0) (c .before .before .before .before .before .before .before .before .before .before .before .before .before .bind .last .1 .1 .1 .1 .1 .1 .1 .1 .1 .0)) _ _ _ (subst (λ (r : Progress). Bound (a .source .now) (a .kinds .now) (a .places .now) (a .values .now) (a .start) (a .table .now) (c .before .before .before .before .before .before .before .before .before .before .before .before .before .bind .last .1 .1 .1 .1 .1 .1 .1 .1 .1 .1 .0) (arrays (c .before .before .before .before .before .before .before .before .before .before .before .before .before .bind .last .1 .1 .1 .1 .0) (c .before .before .before .before .before .before .before .before .before .before .before .before .before .bind .last .1 .1 .1 .1 .1 .0) (c .before .before .before .before .before .before .before .before .before .before .before .before .before .bind .last .1 .1 .1 .1 .1 .1 .0) (c .before .before .before .before .before .before .before .before .before .before .before .before .before .bind .last .1 .1 .1 .1 .1 .1 .1 .0) (c .before .before .before .before .before .before .before .before .before .before .before .before .before .bind .last .1 .1 .1 .1 .1 .1 .1 .1 .0) (c .before .before .before .before .before .before .before .before .before .before .before .before .before .bind .last .1 .1 .1 .1 .1 .1 .1 .1 .1 .0)) r) (c .before .before .before .before .before .before .before .before .before .before .before .b2 .given .1) (c .before .before .before .before .before .before .before .before .before .before .before .before .before .bind .ensures)) (c .before .before .resolve .last .1 .1 .1 .1 .1 .1 .1 .1 .1 .1 .0) (c .before .before .resolve .result) (c .before .before .resolve .ensures) (c .if1 .left)))
+    (λ c. let bind = c .before .before .before .bind in
+    λ p ready. let a = c .before .before .before .before .before .before .before .before .before .before .before .before .before .before .before .args in
+    names-refused (a .source .now) (a .kinds .now) (a .places .now) (a .values .now) p (a .start) (a .rows) (a .depth) (a .table .now) ready _ _
+    (subst (λ (r : Progress). Bound (a .source .now) (a .kinds .now) (a .places .now) (a .values .now) (a .start) (a .table .now) (bind .last .1 .1 .1 .1 .1 .1 .1 .1 .1 .1 .0)
+    (arrays (bind .last .1 .1 .1 .1 .0) (bind .last .1 .1 .1 .1 .1 .0) (bind .last .1 .1 .1 .1 .1 .1 .0) (bind .last .1 .1 .1 .1 .1 .1 .1 .0)
+    (bind .last .1 .1 .1 .1 .1 .1 .1 .1 .0) (bind .last .1 .1 .1 .1 .1 .1 .1 .1 .1 .0)) r) (c .before .b .given .1) (bind .ensures)))
+    (λ c. let c11 = c .before .before .before .before .before .before .before .before .before .before .before in let c13 = c11 .before .before in
+    let c25 = c13 .before .before .before .before .before .before .before .before .before .before .before .before in
+    λ p ready. let a = c25 .args in names-accepted (a .source .now) (a .kinds .now) (a .places .now) (a .values .now) p (a .start) (a .rows) (a .depth) (a .table .now) ready
+    (c13 .bind .last .1 .1 .1 .1 .1 .1 .1 .1 .1 .1 .0)
+    (arrays (c13 .bind .last .1 .1 .1 .1 .0) (c13 .bind .last .1 .1 .1 .1 .1 .0) (c13 .bind .last .1 .1 .1 .1 .1 .1 .0) (c13 .bind .last .1 .1 .1 .1 .1 .1 .1 .0)
+    (c13 .bind .last .1 .1 .1 .1 .1 .1 .1 .1 .0) (c13 .bind .last .1 .1 .1 .1 .1 .1 .1 .1 .1 .0)) _ _ _
+    (subst (λ (r : Progress).
+    Bound (a .source .now) (a .kinds .now) (a .places .now) (a .values .now) (a .start) (a .table .now) (c13 .bind .last .1 .1 .1 .1 .1 .1 .1 .1 .1 .1 .0)
+    (arrays (c13 .bind .last .1 .1 .1 .1 .0) (c13 .bind .last .1 .1 .1 .1 .1 .0) (c13 .bind .last .1 .1 .1 .1 .1 .1 .0)
+    (c13 .bind .last .1 .1 .1 .1 .1 .1 .1 .0) (c13 .bind .last .1 .1 .1 .1 .1 .1 .1 .1 .0) (c13 .bind .last .1 .1 .1 .1 .1 .1 .1 .1 .1 .0)) r) (c11 .b2 .given .1)
+    (c13 .bind .ensures)) (c .before .before .resolve .last .1 .1 .1 .1 .1 .1 .1 .1 .1 .1 .0) (c .before .before .resolve .result)
+    (c .before .before .resolve .ensures) (c .if1 .taken))
+    (λ c. let c11 = c .before .before .before .before .before .before .before .before .before .before .before in let c13 = c11 .before .before in
+    let c25 = c13 .before .before .before .before .before .before .before .before .before .before .before .before in
+    λ p ready. let a = c25 .args in names-row-refused (a .source .now) (a .kinds .now) (a .places .now) (a .values .now) p (a .start) (a .rows) (a .depth) (a .table .now) ready
+    (c13 .bind .last .1 .1 .1 .1 .1 .1 .1 .1 .1 .1 .0)
+    (arrays (c13 .bind .last .1 .1 .1 .1 .0) (c13 .bind .last .1 .1 .1 .1 .1 .0) (c13 .bind .last .1 .1 .1 .1 .1 .1 .0) (c13 .bind .last .1 .1 .1 .1 .1 .1 .1 .0)
+    (c13 .bind .last .1 .1 .1 .1 .1 .1 .1 .1 .0) (c13 .bind .last .1 .1 .1 .1 .1 .1 .1 .1 .1 .0)) _ _ _
+    (subst (λ (r : Progress).
+    Bound (a .source .now) (a .kinds .now) (a .places .now) (a .values .now) (a .start) (a .table .now) (c13 .bind .last .1 .1 .1 .1 .1 .1 .1 .1 .1 .1 .0)
+    (arrays (c13 .bind .last .1 .1 .1 .1 .0) (c13 .bind .last .1 .1 .1 .1 .1 .0) (c13 .bind .last .1 .1 .1 .1 .1 .1 .0)
+    (c13 .bind .last .1 .1 .1 .1 .1 .1 .1 .0) (c13 .bind .last .1 .1 .1 .1 .1 .1 .1 .1 .0) (c13 .bind .last .1 .1 .1 .1 .1 .1 .1 .1 .1 .0)) r) (c11 .b2 .given .1)
+    (c13 .bind .ensures)) (c .before .before .resolve .last .1 .1 .1 .1 .1 .1 .1 .1 .1 .1 .0) (c .before .before .resolve .result)
+    (c .before .before .resolve .ensures) (c .if1 .left)))

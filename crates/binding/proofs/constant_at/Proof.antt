@@ -19,9 +19,15 @@ constant-at-spec =
     (tie.spec
     (λ c κs. search needs)
     (λ c κs. search needs)
-    (λ c. λ made used. rw (eq-eqb _ kind.number (sym (c .before .before .kind-at .ensures) ∙ c .before .if1 .taken)) (ap {B = Constant} (λ (w : ℕ). record { status = 0; word = w }) (c .number .ensures)))
+    (λ c. λ made used.
+    rw (eq-eqb _ kind.number (sym (c .before .before .kind-at .ensures) ∙ c .before .if1 .taken)) (ap {B = Constant} (λ (w : ℕ). record { status = 0; word = w }) (c .number .ensures)))
     (λ c κs. search needs)
     (λ c κs. search needs)
     (λ c κs. search needs)
     (λ c κs. search needs)
-    (λ c. λ made used. let a = c .before .before .before .before .before .before .before .before .before .before .before .before .before .before .before .before .args in rw (ne-eqb _ kind.number (λ e. c .before .before .before .before .if1 .left (c .before .before .before .before .before .kind-at .ensures ∙ e))) (c .constant-of .ensures ∙ ap constant-by (c .before .stands-for .ensures ∙ ap₂ (λ (x y : ℕ). lookup (view (a .source .now) (arrays (a .sources .now) (a .lengths .now) (a .rows .now) (a .sorts .now) (a .words .now) (a .sizes .now)) (a .names)) (views.text (a .source .now) x y)) (c .before .before .before .number2 .ensures) (c .before .before .number3 .ensures)))))
+    (λ c. let c4 = c .before .before .before .before in let c5 = c4 .before in let c16 = c5 .before .before .before .before .before .before .before .before .before .before .before in
+    λ made used. let a = c16 .args in rw (ne-eqb _ kind.number (λ e. c4 .if1 .left (c5 .kind-at .ensures ∙ e)))
+    (c .constant-of .ensures ∙ ap constant-by (c .before .stands-for .ensures ∙ ap₂ (λ (x y : ℕ). lookup (view (a .source .now)
+    (arrays (a .sources .now) (a .lengths .now) (a .rows .now) (a .sorts .now)
+    (a .words .now) (a .sizes .now)) (a .names)) (views.text (a .source .now) x y))
+    (c .before .before .before .number2 .ensures) (c .before .before .number3 .ensures)))))

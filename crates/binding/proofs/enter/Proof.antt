@@ -17,9 +17,24 @@ enter-spec =
     (λ c. omega (arith, c .before .before .before .before .before .before .before .before .pre))
     (λ c. omega (arith, c .before .before .before .before .before .before .before .before .before .pre))
     (λ c. omega (arith, c .before .before .before .before .before .before .before .before .before .before .pre))
-    (λ c. record { count = refl; rows = refl; words = refl; name = λ source. rw (add-one (c .before .before .before .before .before .before .before .before .before .before .args .names)) (c .before .before .before .add .ensures source); table = rw (eq-eqb (c .before .before .before .before .before .before .before .before .before .before .args .e .sort) name-sort.val (c .before .before .if1 .taken)) })
+    (λ c. let start = c .before .before .before .before .before .before .before .before .before .before in
+    record {
+      count = refl;
+      rows = refl;
+      words = refl;
+      name = λ source. rw (add-one (start .args .names)) (c .before .before .before .add .ensures source);
+      table = rw (eq-eqb (start .args .e .sort) name-sort.val (c .before .before .if1 .taken));
+    })
     (λ c κs. omega (arith, c .before .before .before .before .before .before .before .before .before .pre))
     (λ c. omega (arith, c .before .before .before .before .before .before .before .before .before .before .pre))
     (λ c. omega (arith, c .before .before .before .before .before .before .before .before .before .before .before .pre))
     (λ c. omega (arith, c .before .before .before .before .before .before .before .before .before .before .before .before .pre))
-    (λ c. record { count = refl; rows = refl; words = refl; name = λ source. rw (add-one (c .before .before .before .before .before .before .before .before .before .before .before .before .args .names)) (c .before .before .before .before .before .add .ensures source); table = rw (ne-eqb (c .before .before .before .before .before .before .before .before .before .before .before .before .args .e .sort) name-sort.val (c .before .before .before .before .if1 .left)) (c .before .before .put .ensures) }))
+    (λ c. let if1 = c .before .before .before .before .if1 in let add = c .before .before .before .before .before .add in
+    let start = c .before .before .before .before .before .before .before .before .before .before .before .before in
+    record {
+      count = refl;
+      rows = refl;
+      words = refl;
+      name = λ source. rw (add-one (start .args .names)) (add .ensures source);
+      table = rw (ne-eqb (start .args .e .sort) name-sort.val (if1 .left)) (c .before .before .put .ensures);
+    }))

@@ -29,6 +29,10 @@ constant-spec =
     (λ c κs. first _ (rw (constant-long _ _ (c .before .before .if1 .left) (c .before .if2 .left)) at (c .before .before .before .before .pre)))
     (λ c. search needs)
     (λ c. search needs)
-    (λ c κs. rest (c .before .before .before .put-four .ensures) (rw (constant-long _ _ (c .before .before .before .before .before .before .if1 .left) (c .before .before .before .before .before .if2 .left)) at (c .before .before .before .before .before .before .before .before .pre)))
+    (λ c κs. let if2 = c .before .before .before .before .before .if2 in let if1 = c .before .before .before .before .before .before .if1 in
+    let start = c .before .before .before .before .before .before .before .before in
+    rest (c .before .before .before .put-four .ensures) (rw (constant-long _ _ (if1 .left) (if2 .left)) at (start .pre)))
     (λ c. search needs)
-    (λ c. rw (constant-long _ _ (c .before .before .before .before .before .before .before .before .before .if1 .left) (c .before .before .before .before .before .before .before .before .if2 .left)) (then (c .before .before .before .before .before .before .put-four .ensures) (c .before .before .put-three .ensures))))
+    (λ c. let put-four = c .before .before .before .before .before .before .put-four in let if2 = c .before .before .before .before .before .before .before .before .if2 in
+    let if1 = c .before .before .before .before .before .before .before .before .before .if1 in
+    rw (constant-long _ _ (if1 .left) (if2 .left)) (then (put-four .ensures) (c .before .before .put-three .ensures))))

@@ -24,10 +24,14 @@ put-spec =
     (λ c. wrote-one (c .before .before .before .before .args .i) (c .before .before .encode .result) (c .before .before .encode .ensures) (c .if2 .taken) (simp towards-suc))
     (λ c. search needs)
     (λ c. search needs)
-    (λ c. simp length-set (omega (arith, room-two (c .before .before .before .before .args .i) (c .before .before .encode .result) (c .before .before .encode .ensures) (c .before .if1 .left) (c .if2 .left) (c .before .before .before .before .pre))))
+    (λ c. let start = c .before .before .before .before in
+    simp length-set
+    (omega (arith, room-two (start .args .i) (c .before .before .encode .result) (c .before .before .encode .ensures) (c .before .if1 .left) (c .if2 .left) (start .pre))))
     (λ c. search needs)
     (λ c. search needs)
-    (λ c. simp length-set (omega (arith, room-two (c .before .before .before .before .args .i) (c .before .before .encode .result) (c .before .before .encode .ensures) (c .before .if1 .left) (c .if2 .left) (c .before .before .before .before .pre))))
+    (λ c. let start = c .before .before .before .before in
+    simp length-set
+    (omega (arith, room-two (start .args .i) (c .before .before .encode .result) (c .before .before .encode .ensures) (c .before .if1 .left) (c .if2 .left) (start .pre))))
     (λ c. search needs)
     (λ c. search needs)
     (λ c. wrote-two (c .before .before .before .before .args .i) (c .before .before .encode .result) (c .before .before .encode .ensures) (c .before .if1 .left) (c .if2 .left) (simp towards-suc)))

@@ -8,7 +8,9 @@ use Rattle.name_table.proofs.stands_for.Statement.{statement}
 use Rattle.name_table.proofs.stands_for.Tie as tie
 
 abbrev Inv-loop : tie.InvT-loop
-Inv-loop source places lengths rows sorts words sizes count p n k₀ k = lookup (view source (record { places = places; lengths = lengths; rows = rows; sorts = sorts; words = words; sizes = sizes }) count) (text source p n) ≡ lookup (view source (record { places = places; lengths = lengths; rows = rows; sorts = sorts; words = words; sizes = sizes }) k) (text source p n)
+Inv-loop source places lengths rows sorts words sizes count p n k₀ k =
+    lookup (view source (record { places = places; lengths = lengths; rows = rows; sorts = sorts; words = words; sizes = sizes }) count) (text source p n)
+    ≡ lookup (view source (record { places = places; lengths = lengths; rows = rows; sorts = sorts; words = words; sizes = sizes }) k) (text source p n)
 
 abbrev μ-loop : tie.MeasureT-loop
 μ-loop source places lengths rows sorts words sizes count p n k₀ k = k
@@ -24,7 +26,9 @@ stands-for-spec =
     (λ c κs. search needs)
     (λ c. search needs)
     (λ c κs. search needs)
-    (λ c. ap meant (c .meaning-at .ensures) ∙ sym (c .before .before .before .before .loop .inv ∙ lookup-found _ _ _ (c .before .before .before .before .loop .k) (c .before .before .before .loop-test .taken) (sym (c .before .before .named .ensures) ∙ c .before .if1 .taken)))
+    (λ c. let turn = c .before .before .before .before .loop in
+    ap meant (c .meaning-at .ensures)
+    ∙ sym (turn .inv ∙ lookup-found _ _ _ (turn .k) (c .before .before .before .loop-test .taken) (sym (c .before .before .named .ensures) ∙ c .before .if1 .taken)))
     (λ c. search needs)
     (λ c. search needs)
     (λ c. c .before .before .before .loop .inv ∙ lookup-next _ _ _ (c .before .before .before .loop .k) (c .before .before .loop-test .taken) (sym (c .before .named .ensures) ∙ c .if1 .left))

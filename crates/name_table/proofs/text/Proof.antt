@@ -25,8 +25,10 @@ text-spec =
     (λ c. search needs)
     (λ c. search needs)
     (λ c. search needs)
-    (λ c. let q : c .before .before .before .args .p + c .before .before .before .args .n - c .before .before .before .args .p ≡ c .before .before .before .args .n = omega arith in ap (λ (k : ℕ). take k (drop (c .before .before .before .args .p) (c .before .before .before .args .source .now))) q)
+    (λ c. let start = c .before .before .before in let q : start .args .p + start .args .n - start .args .p ≡ start .args .n = omega arith in
+    ap (λ (k : ℕ). take k (drop (start .args .p) (start .args .source .now))) q)
     (λ c. search needs)
     (λ c. search needs)
     (λ c. search needs)
-    (λ c. let d = length-drop (c .before .before .before .args .p) (c .before .before .before .args .source .now) in let r = drop (c .before .before .before .args .p) (c .before .before .before .args .source .now) in take-all (length (c .before .before .before .args .source .now) - c .before .before .before .args .p) r (omega arith) ∙ sym (take-all (c .before .before .before .args .n) r (omega arith))))
+    (λ c. let start = c .before .before .before in let d = length-drop (start .args .p) (start .args .source .now) in let r = drop (start .args .p) (start .args .source .now) in
+    take-all (length (start .args .source .now) - start .args .p) r (omega arith) ∙ sym (take-all (start .args .n) r (omega arith))))

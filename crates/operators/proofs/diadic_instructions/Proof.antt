@@ -27,7 +27,8 @@ diadic-instructions-spec =
     (λ c κs. rest (c .before .before .before .less-than2 .ensures) (rw (c .before .before .before .before .before .match .keys12) at (c .before .before .before .before .before .before .before .pre)))
     (λ c κs. rw (c .before .match .keys13) at (c .before .before .before .pre))
     (λ c κs. first _ (rw (last-operator _ (c .before .match .rest)) at (c .before .before .before .pre)))
-    (λ c κs. rest (c .before .before .before .less-than4 .ensures) (rw (last-operator _ (c .before .before .before .before .before .match .rest)) at (c .before .before .before .before .before .before .before .pre)))
+    (λ c κs. let match = c .before .before .before .before .before .match in let start = c .before .before .before .before .before .before .before in
+    rest (c .before .before .before .less-than4 .ensures) (rw (last-operator _ (match .rest)) at (start .pre)))
     (λ c. search needs)
     (λ c. rw (c .before .before .before .before .match .keys1) (c .before .before .put .ensures))
     (λ c. search needs)
@@ -41,9 +42,11 @@ diadic-instructions-spec =
     (λ c. search needs)
     (λ c. rw (c .before .before .before .before .match .keys6) (c .before .before .put6 .ensures))
     (λ c. search needs)
-    (λ c. rw (c .before .before .before .before .before .before .before .before .match .keys7) (then (c .before .before .before .before .before .before .far-shift .ensures) (c .before .before .put7 .ensures)))
+    (λ c. let far-shift = c .before .before .before .before .before .before .far-shift in let match = c .before .before .before .before .before .before .before .before .match in
+    rw (match .keys7) (then (far-shift .ensures) (c .before .before .put7 .ensures)))
     (λ c. search needs)
-    (λ c. rw (c .before .before .before .before .before .before .before .before .match .keys8) (then (c .before .before .before .before .before .before .far-shift2 .ensures) (c .before .before .put8 .ensures)))
+    (λ c. let far-shift2 = c .before .before .before .before .before .before .far-shift2 in let match = c .before .before .before .before .before .before .before .before .match in
+    rw (match .keys8) (then (far-shift2 .ensures) (c .before .before .put8 .ensures)))
     (λ c. search needs)
     (λ c. rw (c .before .before .before .before .match .keys9) (c .before .before .equality .ensures))
     (λ c. search needs)
@@ -51,8 +54,10 @@ diadic-instructions-spec =
     (λ c. search needs)
     (λ c. rw (c .before .before .before .before .match .keys11) (c .before .before .less-than .ensures))
     (λ c. search needs)
-    (λ c. rw (c .before .before .before .before .before .before .before .before .match .keys12) (then (c .before .before .before .before .before .before .less-than2 .ensures) (c .before .before .put9 .ensures)))
+    (λ c. let less-than2 = c .before .before .before .before .before .before .less-than2 in let match = c .before .before .before .before .before .before .before .before .match in
+    rw (match .keys12) (then (less-than2 .ensures) (c .before .before .put9 .ensures)))
     (λ c. search needs)
     (λ c. rw (c .before .before .before .before .match .keys13) (c .before .before .less-than3 .ensures))
     (λ c. search needs)
-    (λ c. rw (last-operator _ (c .before .before .before .before .before .before .before .before .match .rest)) (then (c .before .before .before .before .before .before .less-than4 .ensures) (c .before .before .put10 .ensures))))
+    (λ c. let less-than4 = c .before .before .before .before .before .before .less-than4 in let match = c .before .before .before .before .before .before .before .before .match in
+    rw (last-operator _ (match .rest)) (then (less-than4 .ensures) (c .before .before .put10 .ensures))))

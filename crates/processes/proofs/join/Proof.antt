@@ -24,8 +24,14 @@ loop-again c =
     let a = c .before .before .before .before .before .before .args in
     let l = c .before .before .before .before .before .loop in
     let k = l .c - 1 in
-    let e : c .put .last .0 ≡ sets (l .table) (row-words * l .next) (row-of layout.sequence (getD (a .pending .now) (a .top + k) 0) (l .next - 1) 0) = _∙_ {b = sets (l .table) (row-words * l .next) (row-of layout.sequence (c .before .wide .result) (l .next - 1) 0)} (c .put .ensures) (ap (λ (x : ℕ). sets (l .table) (row-words * l .next) (row-of layout.sequence x (l .next - 1) 0)) (c .before .wide .ensures)) in
-    (omega arith, omega arith, omega arith, ap (λ (t : List ℕ). joints t (l .next + 1) (a .pending .now) (a .top) k) e ∙ sym (joints-more (l .table) (l .next) (a .pending .now) (a .top) (l .c) k (omega arith)) ∙ l .inv .3)
+    let e : c .put .last .0 ≡ sets (l .table) (row-words * l .next) (row-of layout.sequence (getD (a .pending .now) (a .top + k) 0) (l .next - 1) 0) =
+    _∙_ {b = sets (l .table) (row-words * l .next) (row-of layout.sequence (c .before .wide .result) (l .next - 1) 0)} (c .put .ensures)
+    (ap (λ (x : ℕ). sets (l .table) (row-words * l .next) (row-of layout.sequence x (l .next - 1) 0)) (c .before .wide .ensures)) in (
+      omega arith,
+      omega arith,
+      omega arith,
+      ap (λ (t : List ℕ). joints t (l .next + 1) (a .pending .now) (a .top) k) e ∙ sym (joints-more (l .table) (l .next) (a .pending .now) (a .top) (l .c) k (omega arith)) ∙ l .inv .3,
+    )
 
 pub join-spec : {M : Type 1} → statement M
 join-spec =

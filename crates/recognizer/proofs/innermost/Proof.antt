@@ -24,4 +24,5 @@ innermost-spec =
     (λ c. search needs)
     (λ c. search needs)
     (λ c. search needs)
-    (λ c. rw (frames-some (c .before .before .before .before .args .table .now) (c .before .before .before .before .args .height) (c .before .before .before .before .args .height - 1) (omega (arith, c .before .before .before .if1 .left))) (search needs)))
+    (λ c. let start = c .before .before .before .before in
+    rw (frames-some (start .args .table .now) (start .args .height) (start .args .height - 1) (omega (arith, c .before .before .before .if1 .left))) (search needs)))

@@ -17,6 +17,8 @@ hexadecimal-escape-spec =
     (λ c. search needs)
     (λ c. search needs)
     (λ c κs. search needs)
-    (λ c. unfold hexadecimal-escape in rw (← c .before .before .before .before .before .before .byte .ensures, ← c .before .before .before .byte2 .ensures, ← c .before .before .before .before .before .digit-value .ensures, ← c .before .before .digit-value2 .ensures) (search tests depth 20))
-    (λ c. unfold hexadecimal-escape in rw (← c .before .before .before .before .before .byte .ensures, ← c .before .before .byte2 .ensures, ← c .before .before .before .before .digit-value .ensures, ← c .before .digit-value2 .ensures) (search tests depth 20))
+    (λ c. unfold hexadecimal-escape in let digit-value = c .before .before .before .before .before .digit-value in let byte = c .before .before .before .before .before .before .byte in
+    rw (← byte .ensures, ← c .before .before .before .byte2 .ensures, ← digit-value .ensures, ← c .before .before .digit-value2 .ensures) (search tests depth 20))
+    (λ c. unfold hexadecimal-escape in let digit-value = c .before .before .before .before .digit-value in let byte = c .before .before .before .before .before .byte in
+    rw (← byte .ensures, ← c .before .before .byte2 .ensures, ← digit-value .ensures, ← c .before .digit-value2 .ensures) (search tests depth 20))
     (λ c. unfold hexadecimal-escape in rw (← c .before .before .byte .ensures, ← c .before .digit-value .ensures) (search tests depth 20)))

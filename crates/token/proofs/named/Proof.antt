@@ -14,9 +14,10 @@ use Rattle.token.proofs.named.Tie as tie
 
 returns : tie.Need-returns
 unfolding named
-returns c = let q : c .before .before .before .before .before .args .i + c .before .before .before .span .result - c .before .before .before .before .before .args .i ≡ c .before .before .before .span .result = omega arith in
+returns c = let span = c .before .before .before .span in let start = c .before .before .before .before .before in
+    let q : start .args .i + span .result - start .args .i ≡ span .result = omega arith in
     let w = rw q at (c .word-of .ensures) in
-    rw (← c .before .before .before .span .ensures, le-leb _ 32 (c .before .before .if1 .taken), ← w)
+    rw (← span .ensures, le-leb _ 32 (c .before .before .if1 .taken), ← w)
 
 pub named-spec : {M : Type 1} → statement M
 named-spec =

@@ -18,4 +18,8 @@ fill-table-spec =
     (λ c. search needs)
     (λ c κs. search needs)
     (λ c. search needs)
-    (λ c. let a = c .before .before .before .before .before .before .before .before .before .before .args in let n = row-words * a .count in λ xs e h. c .before .before .clear-words .ensures ∙ ap (λ (l : List ℕ). take n l ++ replicate (length l - n) 0) (c .before .before .before .before .before .before .copy-words .ensures) ∙ filled-table (a .rows .now) (a .table .now) xs n e (c .before .before .before .before .before .before .before .before .before .before .pre .1 .0) (c .before .before .before .before .before .before .before .before .before .before .pre .1 .1) h))
+    (λ c.
+    let copy-words = c .before .before .before .before .before .before .copy-words in let start = c .before .before .before .before .before .before .before .before .before .before in
+    let a = c .before .before .before .before .before .before .before .before .before .before .args in let n = row-words * a .count in
+    λ xs e h. c .before .before .clear-words .ensures ∙ ap (λ (l : List ℕ). take n l ++ replicate (length l - n) 0) (copy-words .ensures)
+    ∙ filled-table (a .rows .now) (a .table .now) xs n e (start .pre .1 .0) (start .pre .1 .1) h))

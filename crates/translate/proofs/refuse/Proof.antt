@@ -12,4 +12,6 @@ refuse-spec =
     (λ c κs. search needs)
     (λ c. search needs)
     (λ c. search needs)
-    (λ c. let a = c .before .before .before .before .before .before .before .before .before .before .args in refused-left (a .number) (a .place) (a .table .now) _ (a .code .now) _ (c .before .before .before .before .before .before .clear-words .ensures) (c .before .before .clear-bytes .ensures)))
+    (λ c. let clear-words = c .before .before .before .before .before .before .clear-words in
+    let a = c .before .before .before .before .before .before .before .before .before .before .args in
+    refused-left (a .number) (a .place) (a .table .now) _ (a .code .now) _ (clear-words .ensures) (c .before .before .clear-bytes .ensures)))
