@@ -59,7 +59,6 @@ fn names(
     let mut name_rows: [u32; 256] = [0; 256];
     let mut sorts: [u32; 256] = [0; 256];
     let mut words: [u32; 256] = [0; 256];
-    let mut sizes: [u32; 256] = [0; 256];
     let b = bind(
         source,
         kinds,
@@ -70,7 +69,6 @@ fn names(
         &mut name_rows,
         &mut sorts,
         &mut words,
-        &mut sizes,
         table,
         start,
     );
@@ -86,7 +84,6 @@ fn names(
                 &name_rows,
                 &sorts,
                 &words,
-                &sizes,
                 count,
                 table,
                 made,

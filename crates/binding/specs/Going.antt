@@ -24,9 +24,10 @@ use Rattle.names.specs.First.{first}
 use Rattle.names.specs.Resolve.{declarations}
 use Rattle.expressions.specs.Parts.{table-one}
 use Rattle.name_table.specs.Sorts as name-sort
-use Rattle.name_table.specs.View.{Table, view, meant, by-sort, text-at, place-at}
+use Rattle.name_table.specs.View.{Table, view, bare, meant, by-sort, text-at, place-at}
 use Rattle.name_table.specs.View as views
-use Rattle.judging.specs.Judge.{verdict-of, or-else, first-append, listed, over, constant-read, constant-at, complaints-by, item-of, item-row, specification-at, width, specified-complaints}
+use Rattle.judging.specs.Judge.{verdict-of, or-else, first-append, listed, over, constant-read, constant-at, complaints-by, complaints-bare, item-of, item-row, specification-at, width}
+use Rattle.judging.specs.Judge.{specified-complaints}
 use Rattle.judging.specs.Judge.{specified-scope, specified-rows}
 use Rattle.binding.specs.Here.{specification-here, comment-here, none-left, some-left}
 use Rattle.name_table.specs.declared.Meaning as found
@@ -118,7 +119,7 @@ pub record Put (e : Item) (p n names made used : ℕ) (old new : Table) (t t′ 
   pub count : count′ ≡ names + 1
   pub rows : rows′ ≡ made + e .rows
   pub words : words′ ≡ used + e .words
-  pub name : (source : List ℕ) → view source new (names + 1) ≡ record { name = views.text source p n; meaning = meant (by-sort (e .sort) (e .row) (e .word) (e .size)) } ∷ view source old names
+  pub name : (source : List ℕ) → view source new (names + 1) ≡ record { name = views.text source p n; meaning = by-sort (e .sort) (e .row) (e .word) (e .size) } ∷ view source old names
   pub table : t′ ≡ sets t (row-words * made) (item-row e)
 
 abbrev pub Puts : Item → ℕ → ℕ → ℕ → ℕ → ℕ → Table → Table → List ℕ → List ℕ → Progress → Type 0
@@ -148,20 +149,25 @@ module _ (source kinds places values : List ℕ) where
     pub rows : rows′ ≡ s .rows + read-item s i .rows
     pub words : words′ ≡ s .words + read-item s i .words
     pub name : view source names′ (s .names + 1)
-        ≡ record { name = text (i + 1); meaning = meant (by-sort (read-item s i .sort) (read-item s i .row) (read-item s i .word) (read-item s i .size)) } ∷ s .entries
+        ≡ record { name = text (i + 1); meaning = by-sort (read-item s i .sort) (read-item s i .row) (read-item s i .word) (read-item s i .size) } ∷ s .entries
     pub table : t′ ≡ sets t (row-words * s .rows) (item-row (read-item s i))
 
   abbrev pub Enters : Scope → ℕ → Table → Table → List ℕ → List ℕ → Progress → Type 0
   Enters s i names names′ t t′ (Refused n p) = first (read-complaints s i) ≡ refused (record { number = n; place = p })
   Enters s i names names′ t t′ (Declared count rows words) = Entered s i names names′ t t′ count rows words
 
+  -- whatever the sizes of the arrays so far, which the code doesn't keep
+  abbrev pub EntersAny : ℕ → ℕ → ℕ → ℕ → (List ℕ → Table) → (List ℕ → Table) → List ℕ → List ℕ → Progress → Type 0
+  EntersAny i count rows words old new t t′ r =
+      (sizes : List ℕ) → 256 ≤ length sizes → (sizes′ : List ℕ) × (256 ≤ length sizes′) × Enters (scope-of source (old sizes) count rows words) i (old sizes) (new sizes′) t t′ r
+
   -- the code's words are those that stand in the arrays
   module _ (s : Scope) (i : ℕ) (k : ℕ) (m : found.Meaning) (c : read.Constant) (p n q : ℕ) (ek : k ≡ getD kinds i 0) (ep : p ≡ place (i + 1)) (en : n ≡ getD values (i + 1) 0)
-      (em : meant m ≡ lookup (s .entries) (views.text source p n)) (ec : c ≡ constant-read text s (constant-at kinds values (i + 3))) (eq : q ≡ place (i + 3)) where
+      (em : meant m ≡ bare (lookup (s .entries) (views.text source p n))) (ec : c ≡ constant-read text s (constant-at kinds values (i + 3))) (eq : q ≡ place (i + 3)) where
     pub judged-as : (v : code.Verdict) → verdict-of v ≡ first (complaints-by k (meant m) (c .status) (c .word) (s .names) (s .words) p q) → first (read-complaints s i) ≡ verdict-of v
     judged-as v h =
-        let em′ : meant m ≡ meaning-of text s (i + 1) = em ∙ ap₂ (λ (a b : ℕ). lookup (s .entries) (views.text source a b)) ep en in
-        sym (h ∙ (λ j. first (complaints-by (ek j) (em′ j) (ec j .status) (ec j .word) (s .names) (s .words) (ep j) (eq j))))
+        let em′ : meant m ≡ bare (meaning-of text s (i + 1)) = em ∙ ap₂ (λ (a b : ℕ). bare (lookup (s .entries) (views.text source a b))) ep en in
+        sym (h ∙ (λ j. first (complaints-by (ek j) (em′ j) (ec j .status) (ec j .word) (s .names) (s .words) (ep j) (eq j))) ∙ ap first (complaints-bare _ _ _ _ _ _ _ _))
 
     pub put-as : (e : Item) (names names′ : Table) (t t′ : List ℕ) (r : Progress) → e ≡ item-of k (c .word) (s .rows) (s .words) → s .entries ≡ view source names (s .names)
         → first (read-complaints s i) ≡ fine
@@ -174,7 +180,7 @@ module _ (source kinds places values : List ℕ) where
           count = h .count;
           rows = h .rows ∙ ap (λ (x : Item). s .rows + x .rows) e′;
           words = h .words ∙ ap (λ (x : Item). s .words + x .words) e′;
-          name = h .name source ∙ (λ j. record { name = views.text source (ep j) (en j); meaning = meant (by-sort (e′ j .sort) (e′ j .row) (e′ j .word) (e′ j .size)) } ∷ sym hs j);
+          name = h .name source ∙ (λ j. record { name = views.text source (ep j) (en j); meaning = by-sort (e′ j .sort) (e′ j .row) (e′ j .word) (e′ j .size) } ∷ sym hs j);
           table = h .table ∙ ap (λ (x : Item). sets t (row-words * s .rows) (item-row x)) e′;
         }
 
@@ -263,7 +269,7 @@ module _ (source kinds places values : List ℕ) where
             let (rest, l, h) = first-left in
             let d = specification-at kinds values i in
             let e = read-item s i in
-            let entered : List Entry = record { name = text (i + 1); meaning = meant (by-sort (e .sort) (e .row) (e .word) (e .size)) } ∷ view source names count in
+            let entered : List Entry = record { name = text (i + 1); meaning = by-sort (e .sort) (e .row) (e .word) (e .size) } ∷ view source names count in
             let v : entered ≡ view source names′ count′ = sym (n .name) ∙ ap (view source names′) (sym (n .count)) in
             let r = sym (n .rows) in let c = sym (n .count) in let w = sym (n .words) in
             let s′ : declare text d s ≡ scope-of source names′ count′ rows′ words′ =

@@ -20,7 +20,7 @@ use Rattle.names.specs.Complaints.{Complaint, Verdict, fine, refused, is-known,
 use Rattle.names.specs.First.{first}
 use Rattle.name_table.specs.Sorts as name-sort
 use Rattle.names.specs.Resolve.{declared}
-use Rattle.name_table.specs.View.{meant, by-sort}
+use Rattle.name_table.specs.View.{bare, by-sort}
 use Rattle.judging.specs.declared.Verdict as code
 use Rattle.judging.specs.declared.Verdict.the-variants.{Fine, Refused}
 use Rattle.judging.specs.declared.Constant as read
@@ -77,6 +77,20 @@ complaints-by k m status word names words p q =
     ++ pick (eqb status 0) (when (bad-length word) refusal.bad-length ++ when (over names words word) refusal.too-much) (when (over names words 0) refusal.too-much))
     ++ listed q (some status))
     (listed p (when (is-known m) refusal.declared-twice ++ when (over names words 0) refusal.too-much) ++ listed q (some status)))
+
+-- offset and length matter to neither
+pub constant-bare : (m : Meaning) → constant-by (bare m) ≡ constant-by m
+constant-bare unknown = refl
+constant-bare (variable v) = refl
+constant-bare (array a) = refl
+constant-bare (constant w) = refl
+
+pub complaints-bare : (k : ℕ) (m : Meaning) (status word names words p q : ℕ) → complaints-by k (bare m) status word names words p q ≡ complaints-by k m status word names words p q
+unfolding complaints-by
+complaints-bare k unknown status word names words p q = refl
+complaints-bare k (variable v) status word names words p q = refl
+complaints-bare k (array a) status word names words p q = refl
+complaints-bare k (constant w) status word names words p q = refl
 
 -- what a specification enters: the name's sort, its row, its word and size; and how many rows and words it declares
 unfoldable pub item-of : ℕ → ℕ → ℕ → ℕ → Item
@@ -189,7 +203,7 @@ module _ (text : ℕ → List ℕ) (place : ℕ → ℕ) (s : Scope) where
     -- THE LAW of what is declared
     pub specified-scope : declare text (specification-at kinds values i) s
         ≡ record {
-          entries = record { name = text (i + 1); meaning = meant (by-sort (e .sort) (e .row) (e .word) (e .size)) } ∷ s .entries;
+          entries = record { name = text (i + 1); meaning = by-sort (e .sort) (e .row) (e .word) (e .size) } ∷ s .entries;
           rows = s .rows + e .rows;
           names = s .names + 1;
           words = s .words + e .words;
@@ -208,7 +222,7 @@ module _ (text : ℕ → List ℕ) (place : ℕ → ℕ) (s : Scope) where
 
         by : (a b : Bool) → declare text (pick a (grammar.var (i + 1)) (pick b (grammar.array (i + 1) c) (val (i + 1) c))) s
             ≡ record {
-              entries = record { name = text (i + 1); meaning = meant (by-sort (it a b .sort) (it a b .row) (it a b .word) (it a b .size)) } ∷ s .entries;
+              entries = record { name = text (i + 1); meaning = by-sort (it a b .sort) (it a b .row) (it a b .word) (it a b .size) } ∷ s .entries;
               rows = s .rows + it a b .rows;
               names = s .names + 1;
               words = s .words + it a b .words;

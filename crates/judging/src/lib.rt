@@ -39,8 +39,8 @@ fn known(m: Meaning) -> bool
 {
     match m {
         Meaning::Unknown => false,
-        Meaning::Variable(_, _) => true,
-        Meaning::Array(_, _, _) => true,
+        Meaning::Variable(_) => true,
+        Meaning::Array(_) => true,
         Meaning::Constant(_) => true,
     }
 }
@@ -99,11 +99,11 @@ pub fn constant_of(m: Meaning) -> Constant
             status: refusal::NOT_DECLARED,
             word: 0,
         },
-        Meaning::Variable(_, _) => Constant {
+        Meaning::Variable(_) => Constant {
             status: refusal::WRONG_KIND,
             word: 0,
         },
-        Meaning::Array(_, _, _) => Constant {
+        Meaning::Array(_) => Constant {
             status: refusal::WRONG_KIND,
             word: 0,
         },

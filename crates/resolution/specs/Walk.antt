@@ -21,7 +21,7 @@ use Rattle.names.specs.Complaints.{as-value, as-target, as-array, at, Verdict, 
 use Rattle.names.specs.RowComplaints.{lesser-of, lesser-of-comm, lesser-of-assoc, least-append, numbers-of, row-complaints}
 use Rattle.name_table.specs.Sorts as name-sort
 use Rattle.names.specs.ResolvedRows.{declared-row, value-row, names-one, resolve-rows}
-use Rattle.name_table.specs.View.{text-at, place-at}
+use Rattle.name_table.specs.View.{bare, text-at, place-at}
 use Rattle.resolution.specs.declared.Found.{Found}
 
 -- a number at a place, 0 for none
@@ -138,6 +138,19 @@ module _ (k : ℕ) (m : Meaning) (a b c : ℕ) where
   pub row-plain : ¬ (k ≡ layout.variable) → names-one k ≡ false → row k a b c ≡ row-by k m a b c
   row-plain e f = rw (ne-eqb k layout.variable e, f)
 
+-- offset and length matter to neither
+pub row-bare : (k : ℕ) (m : Meaning) (a b c : ℕ) → row-by k (bare m) a b c ≡ row-by k m a b c
+row-bare k unknown a b c = refl
+row-bare k (variable v) a b c = refl
+row-bare k (array v) a b c = refl
+row-bare k (constant w) a b c = refl
+
+pub sort-bare : (m : Meaning) → sort-of (bare m) ≡ sort-of m
+sort-bare unknown = refl
+sort-bare (variable v) = refl
+sort-bare (array v) = refl
+sort-bare (constant w) = refl
+
 -- ── laws: a turn of the loop, and its end ──
 module _ (source places lengths : List ℕ) (es : List Entry) where
   abbrev pub walk-of : ℕ → List ℕ → ℕ → Verdict → Walked
@@ -145,13 +158,16 @@ module _ (source places lengths : List ℕ) (es : List Entry) where
 
   pub walk-turn : (t t′ : List ℕ) (r end : ℕ) (v v′ : Verdict) (k a b c p n : ℕ) (m : Meaning) → r < end
       → k ≡ getD t (row-words * r) 0 → a ≡ getD t (row-words * r + 1) 0 → b ≡ getD t (row-words * r + 2) 0 → c ≡ getD t (row-words * r + 3) 0
-      → p ≡ getD places a 0 → n ≡ getD lengths a 0 → m ≡ lookup es (take n (drop p source))
+      → p ≡ getD places a 0 → n ≡ getD lengths a 0 → m ≡ bare (lookup es (take n (drop p source)))
       → t′ ≡ sets t (row-words * r) (row-by k m a b c) → v′ ≡ lesser-of v (judged-by (complaint k (sort-of m)) p)
       → walk-of (end - r) t r v ≡ walk-of (end - (r + 1)) t′ (r + 1) v′
   unfolding walk
   walk-turn t t′ r end v v′ k a b c p n m l ek ea eb ec ep en em et ev =
       let z : end - r ≡ suc (end - (r + 1)) = omega arith in
-      rw (z, et, ev, em, en, ep, ec, eb, ea, ek, ← word-zero t r)
+      let x = lookup es (take n (drop p source)) in
+      let et′ : t′ ≡ sets t (row-words * r) (row-by k x a b c) = et ∙ ap (sets t (row-words * r)) (ap (λ (y : Meaning). row-by k y a b c) em ∙ row-bare k x a b c) in
+      let ev′ : v′ ≡ lesser-of v (judged-by (complaint k (sort-of x)) p) = ev ∙ ap (λ (y : ℕ). lesser-of v (judged-by (complaint k y) p)) (ap sort-of em ∙ sort-bare x) in
+      rw (z, et′, ev′, en, ep, ec, eb, ea, ek, ← word-zero t r)
 
   pub walk-end : (t : List ℕ) (r end : ℕ) (v : Verdict) → end ≤ r → walk-of (end - r) t r v ≡ walked t v
   unfolding walk

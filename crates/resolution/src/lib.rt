@@ -1,6 +1,7 @@
 // Resolves the raw rows in place, and keeps the least complaint about the names in them.
 ghost use mathlib.Core.Path.{_≡_};
-ghost use Prim.Native.Nat.{_+_, _-_, _*_, _<_, _≤_};
+ghost use Prim.Native.Nat.{ℕ, _+_, _-_, _*_, _<_, _≤_};
+ghost use mathlib.Core.List.{List};
 ghost use lib.ListN.{getD};
 ghost use lib.Seq.{sets};
 ghost use Rattle.program.specs.Layout.{«row-words»};
@@ -53,8 +54,8 @@ fn sort_of(m: Meaning) -> u32
 {
     match m {
         Meaning::Unknown => sort::UNDECLARED,
-        Meaning::Variable(_, _) => sort::VAR,
-        Meaning::Array(_, _, _) => sort::ARRAY,
+        Meaning::Variable(_) => sort::VAR,
+        Meaning::Array(_) => sort::ARRAY,
         Meaning::Constant(_) => sort::VAL,
     }
 }
@@ -65,8 +66,8 @@ fn row_of(m: Meaning) -> u32
 {
     match m {
         Meaning::Unknown => 0,
-        Meaning::Variable(row, _) => row,
-        Meaning::Array(row, _, _) => row,
+        Meaning::Variable(row) => row,
+        Meaning::Array(row) => row,
         Meaning::Constant(_) => 0,
     }
 }
@@ -77,8 +78,8 @@ fn word_of(m: Meaning) -> u32
 {
     match m {
         Meaning::Unknown => 0,
-        Meaning::Variable(_, _) => 0,
-        Meaning::Array(_, _, _) => 0,
+        Meaning::Variable(_) => 0,
+        Meaning::Array(_) => 0,
         Meaning::Constant(w) => w,
     }
 }
@@ -169,24 +170,23 @@ fn resolve_row(table: &mut [u32; 4096], r: usize, m: Meaning, k: u32, a: u32, b:
 fn walk_rows(
     source: &[u8],
     places: &[u32],
-    lengths: &[u32],
+    values: &[u32],
     name_places: &[u32],
     name_lengths: &[u32],
-    rows: &[u32],
+    name_rows: &[u32],
     sorts: &[u32],
     words: &[u32],
-    sizes: &[u32],
     count: usize,
     table: &mut [u32; 4096],
     first: usize,
     end: usize,
 ) -> Found
     requires { ⌜ end ≤ 1024 ⌝ }
-    ensures { λ r. ⌜ walked (now (table .exit)) (verdict r)
-        ≡ walk («text-at» (now (source .entry)) (now (places .entry)) (now (lengths .entry))) («place-at» (now (places .entry)))
+    ensures { λ r. ⌜ ((sizes : List ℕ) → walked (now (table .exit)) (verdict r)
+        ≡ walk («text-at» (now (source .entry)) (now (places .entry)) (now (values .entry))) («place-at» (now (places .entry)))
         («scope-of» (view (now (source .entry))
-        (arrays (now («name_places» .entry)) (now («name_lengths» .entry)) (now (rows .entry)) (now (sorts .entry)) (now (words .entry)) (now (sizes .entry))) count)) (end - first)
-        (now (table .entry)) first Complaints.fine ⌝ }
+        (arrays (now («name_places» .entry)) (now («name_lengths» .entry)) (now («name_rows» .entry)) (now (sorts .entry)) (now (words .entry)) sizes) count))
+        (end - first) (now (table .entry)) first Complaints.fine) ⌝ }
 {
     let mut least = Found {
         number: 0,
@@ -199,15 +199,14 @@ fn walk_rows(
         let b = field(table, row::WORDS * r + 2);
         let c = field(table, row::WORDS * r + 3);
         let p = number(places, wide(a));
-        let n = number(lengths, wide(a));
+        let n = number(values, wide(a));
         let m = stands_for(
             source,
             name_places,
             name_lengths,
-            rows,
+            name_rows,
             sorts,
             words,
-            sizes,
             count,
             p,
             n,
@@ -227,35 +226,33 @@ fn walk_rows(
 pub fn resolve(
     source: &[u8],
     places: &[u32],
-    lengths: &[u32],
+    values: &[u32],
     name_places: &[u32; 256],
     name_lengths: &[u32; 256],
-    rows: &[u32; 256],
+    name_rows: &[u32; 256],
     sorts: &[u32; 256],
     words: &[u32; 256],
-    sizes: &[u32; 256],
     count: usize,
     table: &mut [u32; 4096],
     first: usize,
     end: usize,
 ) -> Found
     requires { ⌜ end ≤ 1024 ⌝ }
-    ensures { λ r. ⌜ walked (now (table .exit)) (verdict r)
-        ≡ walk («text-at» (now (source .entry)) (now (places .entry)) (now (lengths .entry))) («place-at» (now (places .entry)))
+    ensures { λ r. ⌜ ((sizes : List ℕ) → walked (now (table .exit)) (verdict r)
+        ≡ walk («text-at» (now (source .entry)) (now (places .entry)) (now (values .entry))) («place-at» (now (places .entry)))
         («scope-of» (view (now (source .entry))
-        (arrays (now («name_places» .entry)) (now («name_lengths» .entry)) (now (rows .entry)) (now (sorts .entry)) (now (words .entry)) (now (sizes .entry))) count)) (end - first)
-        (now (table .entry)) first Complaints.fine ⌝ }
+        (arrays (now («name_places» .entry)) (now («name_lengths» .entry)) (now («name_rows» .entry)) (now (sorts .entry)) (now (words .entry)) sizes) count))
+        (end - first) (now (table .entry)) first Complaints.fine) ⌝ }
 {
     walk_rows(
         source,
         places,
-        lengths,
+        values,
         name_places,
         name_lengths,
-        rows,
+        name_rows,
         sorts,
         words,
-        sizes,
         count,
         table,
         first,

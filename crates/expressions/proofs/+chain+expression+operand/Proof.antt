@@ -151,10 +151,7 @@ pub +chain+expression+operand-spec : {M : Type 1} → statement M
     (chain-at t)
     chain.Post
     (λ c κs. let s = c .before .before .before in let f = s .pre .1 .0 in let g = s .pre .1 .1 in (omega arith, f))
-    (λ c. search needs)
-    (λ c. search needs)
-    (λ c κs. search needs)
-    (λ c κs. search needs)
+    (search needs) (search needs) (search needs) (search needs)
     (λ c. let s = c .before .before .before .before .before .before .before .before .before .before .before in let f = s .pre .1 .0 in let g = s .pre .1 .1 in
     let h = chain-has t (c .before .before .before .before .before) in let w = h .0 in omega arith)
     (λ c κs. let read = c .before .before .before .before .before .j in let s = c .before .before .before .before .before .before .before .before .before .before .before in
@@ -197,13 +194,12 @@ pub +chain+expression+operand-spec : {M : Type 1} → statement M
     (λ t. expression-lts.spec (expression-calls t)
     (expression-at t)
     expression.Post
-    (λ c κs. search needs)
-    (λ c κs. search needs)
+    (search needs) (search needs)
     (λ c. let s = c .before .before .before .before .before .before in let f = s .pre .1 in let k = c .before .before .before .kind-at .ensures in omega arith)
     (λ c κs. let kind-at = c .before .before .before .kind-at in let s = c .before .before .before .before .before .before in let f = s .pre .1 in let k = kind-at .ensures in
     let z : is-monadic (kind-at .result) ≡ true = sym (c .before .before .is-monadic .ensures) ∙ c .before .if1 .taken in let b = monadic-big (kind-at .result) z in
     let l = inside (s .args .kinds .now) (s .args .i) (kind-at .result) (sym k) (omega arith) in omega arith)
-    (λ c κs. search needs)
+    (search needs)
     (λ c κs. let kind-at = c .before .before .before .before .before .before .kind-at in let s = c .before .before .before .before .before .before .before .before .before in
     let f = s .pre .1 in let k = kind-at .ensures in
     ready-of (s .args .kinds .now) (s .args .i + 1) (s .args .n) (c .before .before .operand .result) (c .before .before .operand .ensures .0) (omega arith) (f .small))
@@ -224,10 +220,7 @@ pub +chain+expression+operand-spec : {M : Type 1} → statement M
     rw (c .deepen .ensures, c .before .add-row .ensures .0, c .before .add-row .ensures .1, c .before .before .monadic-number .ensures)
     (expression-monadic (s .args .kinds .now) (s .args .values .now) (s .args .i) (s .args .n) (s .args .table .now) (kind-at .result) (operand .result) _ (sym k) b z (operand .ensures)))
     (λ c κs. let s = c .before .before .before .before .before .before in let f = s .pre .1 in let k = c .before .before .before .kind-at .ensures in (omega arith, f))
-    (λ c. search needs)
-    (λ c. search needs)
-    (λ c κs. search needs)
-    (λ c κs. search needs)
+    (search needs) (search needs) (search needs) (search needs)
     (λ c. let kind-at = c .before .before .before .before .before .before .before .before .before .before .before .kind-at in
     let s = c .before .before .before .before .before .before .before .before .before .before .before .before .before .before in let f = s .pre .1 in let k = kind-at .ensures in
     let h = expression-has t (c .before .before .before .before .before) in let w = h .0 in omega arith)
@@ -284,7 +277,7 @@ pub +chain+expression+operand-spec : {M : Type 1} → statement M
     λ t. operand-lts.spec (operand-calls t)
     (operand-at t)
     operand.Post
-    (λ c κs. search needs)
+    (search needs)
     (λ c. let s = c .before .before .before .before .before in let f = s .pre .1 in let k = c .before .before .kind-at .ensures in let e = sym k ∙ c .before .if1 .taken in
     let l = inside (s .args .kinds .now) (s .args .i) kind.number e (omega arith) in omega arith)
     (λ c. let s = c .before .before .before .before .before .before in let f = s .pre .1 in let k = c .before .before .before .kind-at .ensures in
@@ -302,7 +295,7 @@ pub +chain+expression+operand-spec : {M : Type 1} → statement M
     let e = sym k ∙ c .before .before .before .if1 .taken in let l = inside (s .args .kinds .now) (s .args .i) kind.number e (omega arith) in
     operand-number (s .args .kinds .now) (s .args .values .now) (s .args .i) (s .args .n) (s .args .table .now) (c .put .last .0) e (c .put .ensures))
     (λ c. let s = c .before .before .before .before .before in let f = s .pre .1 in let k = c .before .before .kind-at .ensures in omega arith)
-    (λ c κs. search needs)
+    (search needs)
     (λ c. let s = c .before .before .before .before .before .before .before .before in let f = s .pre .1 in let k = c .before .before .before .before .before .kind-at .ensures in omega arith)
     (λ c κs. let kind-at = c .before .before .before .before .before .kind-at in let s = c .before .before .before .before .before .before .before .before in let f = s .pre .1 in
     let k = kind-at .ensures in let e = sym k ∙ c .before .before .before .if2 .taken in let l = inside (s .args .kinds .now) (s .args .i) kind.name e (omega arith) in

@@ -27,18 +27,12 @@ run-spec =
     (tie.spec
     Inv-loop
     μ-loop
-    (λ c κs. search needs)
-    (λ c κs. search needs)
-    (λ c κs. search needs)
-    (λ c. search needs)
+    (search needs) (search needs) (search needs) (search needs)
     (λ c. unfold runOf in let x = c .before .before .before .before .before .before .before .args in
     ap (λ (r : Ran). run-after r (now (x .memory))) (c .stopped .ensures ∙ ap (λ (s : Stepped). ran s 0) (c .before .fault .ensures))
     ∙ rw (← c .before .before .before .refusal .ensures, ne-eqb _ 0 (c .before .before .if1 .taken)))
     (λ c. let x = c .before .before .before .before .before .args in (ap (λ (n : ℕ). runFrom n 0 (now (x .code)) (now (x .memory)) (x .machine)) (omega arith), (omega arith, refl)))
-    (λ c κs. search needs)
-    (λ c. search needs)
-    (λ c κs. search needs)
-    (λ c. search needs)
+    (search needs) (search needs) (search needs) (search needs)
     (λ c. unfold runOf in let once = c .before .before .before .before .once in let loop-test = c .before .before .before .before .before .before .loop-test in
     let if1 = c .before .before .before .before .before .before .before .before .if1 in
     let refusal = c .before .before .before .before .before .before .before .before .before .refusal in
@@ -47,8 +41,7 @@ run-spec =
     rw (← refusal .ensures, eq-eqb _ 0 (if1 .left))
     (ap (λ (r : Ran). run-after r w) (c .stopped2 .ensures)
     ∙ sym (lp .inv .0 ∙ turn-ended (x .limit) (lp .k) (now (x .code)) (lp .memory) (lp .m) (after s w) (once .ensures) (loop-test .taken) (c .before .if2 .taken))))
-    (λ c κs. search needs)
-    (λ c. search needs)
+    (search needs) (search needs)
     (λ c. unfold runOf in let once = c .before .before .before .before .before .once in let loop-test = c .before .before .before .before .before .before .before .loop-test in
     let if1 = c .before .before .before .before .before .before .before .before .before .if1 in
     let refusal = c .before .before .before .before .before .before .before .before .before .before .refusal in
@@ -58,15 +51,14 @@ run-spec =
     (ap (λ (r : Ran). run-after r w) (c .stopped3 .ensures)
     ∙ sym (lp .inv .0
     ∙ turn-fault (x .limit) (lp .k) (now (x .code)) (lp .memory) (lp .m) (after s w) (once .ensures) (loop-test .taken) (c .before .if3 .taken) (c .before .before .if2 .left))))
-    (λ c. search needs)
-    (λ c. search needs)
+    (search needs) (search needs)
     (λ c. let once = c .before .before .before .before .before .once in let loop-test = c .before .before .before .before .before .before .before .loop-test in
     let x = c .before .before .before .before .before .before .before .before .before .before .before .before .before .before .args in
     let lp = c .before .before .before .before .before .before .before .before .loop in let s = once .result in let w = once .last .1 .1 .0 in (
       lp .inv .0 ∙ turn-more (x .limit) (lp .k) (now (x .code)) (lp .memory) (lp .m) (after s w) (once .ensures) (loop-test .taken) (c .before .if3 .left),
       (omega arith, once .kept .1 .1 .0 ∙ lp .inv .1 .1),
     ))
-    (λ c. search needs)
+    (search needs)
     (λ c. unfold runOf in let x = c .before .before .before .before .before .before .before .args in let lp = c .before .loop in
     rw (← c .before .before .before .refusal .ensures, eq-eqb _ 0 (c .before .before .if1 .left))
     (sym (lp .inv .0 ∙ all-done (x .limit) (lp .k) (now (x .code)) (lp .memory) (lp .m) (c .loop-test .left)))))

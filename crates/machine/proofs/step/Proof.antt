@@ -14,11 +14,8 @@ pub step-spec : {M : Type 1} → statement M
 step-spec =
     tie.close
     (tie.spec
-    (λ c κs. search needs)
-    (λ c κs. search needs)
-    (λ c. search needs)
+    (search needs) (search needs) (search needs)
     (λ c. unfold stepOf in let x = c .before .before .before .before .before .before .args in
     ap (λ (s : Stepped). after s (now (x .memory))) (c .fault .ensures) ∙ rw (← c .before .before .refusal .ensures, ne-eqb _ 0 (c .before .if1 .taken)))
-    (λ c κs. search needs)
-    (λ c. search needs)
+    (search needs) (search needs)
     (λ c. unfold stepOf in c .before .before .once .ensures ∙ rw (← c .before .before .before .before .before .refusal .ensures, eq-eqb _ 0 (c .before .before .before .before .if1 .left))))

@@ -16,36 +16,28 @@ pub pair-of-spec : {M : Type 1} → statement M
 pair-of-spec =
     tie.close
     (tie.spec
-    (λ c. search needs)
-    (λ c κs. search needs)
+    (search needs) (search needs)
     (λ c. unfold pair-name in let x = c .before .before .before .args in
     numbered (λ (k : ℕ). pair (pair-name k) (x .d) (x .r)) 0 (written (x .line)) _ (c .pair .ensures) (c .before .before .if1 .taken))
-    (λ c. search needs)
-    (λ c κs. search needs)
+    (search needs) (search needs)
     (λ c. unfold pair-name in let x = c .before .before .before .before .args in
     numbered (λ (k : ℕ). pair (pair-name k) (x .d) (x .r)) 1 (written (x .line)) _ (c .pair2 .ensures) (c .before .before .if2 .taken))
-    (λ c. search needs)
-    (λ c κs. search needs)
+    (search needs) (search needs)
     (λ c. unfold pair-name in let x = c .before .before .before .before .before .args in
     numbered (λ (k : ℕ). pair (pair-name k) (x .d) (x .r)) 2 (written (x .line)) _ (c .pair3 .ensures) (c .before .before .if3 .taken))
-    (λ c. search needs)
-    (λ c κs. search needs)
+    (search needs) (search needs)
     (λ c. unfold pair-name in let x = c .before .before .before .before .before .before .args in
     numbered (λ (k : ℕ). pair (pair-name k) (x .d) (x .r)) 3 (written (x .line)) _ (c .pair4 .ensures) (c .before .before .if4 .taken))
-    (λ c. search needs)
-    (λ c κs. search needs)
+    (search needs) (search needs)
     (λ c. unfold pair-name in let x = c .before .before .before .before .before .before .before .args in
     numbered (λ (k : ℕ). pair (pair-name k) (x .d) (x .r)) 4 (written (x .line)) _ (c .pair5 .ensures) (c .before .before .if5 .taken))
-    (λ c. search needs)
-    (λ c κs. search needs)
+    (search needs) (search needs)
     (λ c. unfold pair-name in let x = c .before .before .before .before .before .before .before .before .args in
     numbered (λ (k : ℕ). pair (pair-name k) (x .d) (x .r)) 5 (written (x .line)) _ (c .pair6 .ensures) (c .before .before .if6 .taken))
-    (λ c. search needs)
-    (λ c κs. search needs)
+    (search needs) (search needs)
     (λ c. unfold pair-name in let x = c .before .before .before .before .before .before .before .before .before .args in
     numbered (λ (k : ℕ). pair (pair-name k) (x .d) (x .r)) 6 (written (x .line)) _ (c .pair7 .ensures) (c .before .before .if7 .taken))
-    (λ c. search needs)
-    (λ c κs. search needs)
+    (search needs) (search needs)
     (λ c. unfold pair-name in let if5 = c .before .before .before .before .if5 in let if4 = c .before .before .before .before .before .if4 in
     let if3 = c .before .before .before .before .before .before .if3 in let if2 = c .before .before .before .before .before .before .before .if2 in
     let if1 = c .before .before .before .before .before .before .before .before .if1 in let x = c .before .before .before .before .before .before .before .before .before .args in

@@ -11,15 +11,7 @@ pub named-spec : {M : Type 1} → statement M
 named-spec =
     tie.close
     (tie.spec
-    (λ c κs. search needs)
-    (λ c κs. search needs)
-    (λ c κs. search needs)
-    (λ c κs. search needs)
-    (λ c κs. search needs)
-    (λ c κs. search needs)
-    (λ c κs. search needs)
-    (λ c κs. search needs)
-    (λ c κs. search needs)
+    (search needs) (search needs) (search needs) (search needs) (search needs) (search needs) (search needs) (search needs) (search needs)
     (λ c. let text = c .before .before .before .before .text in let wide2 = c .before .before .before .before .before .wide2 in
     let number2 = c .before .before .before .before .before .before .number2 in let wide = c .before .before .before .before .before .before .before .wide in
     let number = c .before .before .before .before .before .before .before .before .number in

@@ -224,7 +224,7 @@ pub +braces+conditional+list+process+repetition-spec : {M : Type 1} → statemen
     (braces-at t)
     braces.Post
     (λ c. let s = c .before .before in let f = s .pre .1 .0 in let l = inside (s .args .kinds .now) (s .args .i) kind.open-brace (s .pre .1 .1) (omega arith) in omega arith)
-    (λ c κs. search needs)
+    (search needs)
     (λ c κs. let s = c .before .before .before .before .before in let f = s .pre .1 .0 in let l = inside (s .args .kinds .now) (s .args .i) kind.open-brace (s .pre .1 .1) (omega arith) in omega arith)
     (λ c. let s = c .before .before .before .before .before .before in let f = s .pre .1 .0 in
     let l = inside (s .args .kinds .now) (s .args .i) kind.open-brace (s .pre .1 .1) (omega arith) in omega arith)
@@ -256,8 +256,7 @@ pub +braces+conditional+list+process+repetition-spec : {M : Type 1} → statemen
     (λ c κs. let s = c .before .before .before in let f = s .pre .1 .0 in let l = inside (s .args .kinds .now) (s .args .i) kind.if (s .pre .1 .1) (omega arith) in omega arith)
     (λ c κs. let s = c .before .before .before .before in let f = s .pre .1 .0 in let l = inside (s .args .kinds .now) (s .args .i) kind.if (s .pre .1 .1) (omega arith) in
     (within-of (s .args .kinds .now) (s .args .i + 1) (s .args .n) (c .expression .result) (c .expression .ensures .0), omega arith))
-    (λ c. search needs)
-    (λ c. search needs)
+    (search needs) (search needs)
     (λ c κs. let s = c .before .before .before .before .before .before .before .before .before .before in let f = s .pre .1 .0 in
     let l = inside (s .args .kinds .now) (s .args .i) kind.if (s .pre .1 .1) (omega arith) in let h = conditional-has t (c .before .before .before) in let w = h .0 in
     omega (arith, s .pre .1 .2))
@@ -265,8 +264,7 @@ pub +braces+conditional+list+process+repetition-spec : {M : Type 1} → statemen
     let read = c .before .before .before .before .j in let s = c .before .before .before .before .before .before .before .before .before .before .before in let f = s .pre .1 .0 in
     let l = inside (s .args .kinds .now) (s .args .i) kind.if (s .pre .1 .1) (omega arith) in let h = conditional-has t (c .before .before .before .before) in let w = h .0 in
     (within-of (s .args .kinds .now) (read .given .0 .0) (read .given .0 .1 .0) (c .process .result) (c .process .ensures .0 .0), omega arith))
-    (λ c. search needs)
-    (λ c. search needs)
+    (search needs) (search needs)
     (λ c κs. let c10 = c .before .before .before .before .before .before .before .before .before .before in let c17 = c10 .before .before .before .before .before .before .before in
     let s = c17 in let f = s .pre .1 .0 in let l = inside (s .args .kinds .now) (s .args .i) kind.if (s .pre .1 .1) (omega arith) in let h = conditional-has t (c10) in let w = h .0 in
     let g = conditional-then t (c .before .before .before) in let u = g .0 in omega (arith, s .pre .1 .2))
@@ -289,7 +287,7 @@ pub +braces+conditional+list+process+repetition-spec : {M : Type 1} → statemen
     let l = inside (s .args .kinds .now) (s .args .i) kind.if (s .pre .1 .1) (omega arith) in let h = conditional-has t (c12) in let w = h .0 in let g = conditional-then t (c5) in
     let u = g .0 in
     ready-of (s .args .kinds .now) (c5 .k .given .0 .0) (c5 .k .given .0 .1 .0) (c .before .process2 .result) (c .before .process2 .ensures .0 .0) (omega arith) (f .small))
-    (λ c κs. search needs)
+    (search needs)
     (λ c κs. let c7 = c .before .before .before .before .before .before .before in let c14 = c7 .before .before .before .before .before .before .before in
     let c21 = c14 .before .before .before .before .before .before .before in let s = c21 in let f = s .pre .1 .0 in
     let l = inside (s .args .kinds .now) (s .args .i) kind.if (s .pre .1 .1) (omega arith) in let h = conditional-has t (c14) in let w = h .0 in let g = conditional-then t (c7) in
@@ -341,7 +339,7 @@ pub +braces+conditional+list+process+repetition-spec : {M : Type 1} → statemen
     (λ c. let s = c .before .before .before .before .before in let f = s .pre .1 .0 in let v = c .before .before .loop in let z = v .inv in omega arith)
     (λ c κs. let s = c .before .before .before .before .before in let f = s .pre .1 .0 in let v = c .before .before .loop in let z = v .inv in
     (omega arith, (record { few = omega arith; short = omega arith; small = f .small; enough = f .enough }, omega arith)))
-    (λ c. search needs)
+    (search needs)
     (λ c. let process = c .before .before .before .process in let s = c .before .before .before .before .before .before .before .before .before in let f = s .pre .1 .0 in
     let v = c .before .before .before .before .before .before .loop in let z = v .inv in (
       resumes-bad (s .args .kinds .now) (s .args .values .now) (s .args .i) (s .args .n) (s .args .table .now) (v .at) (v .row) (v .table) (v .pending) (s .args .top) (v .count)
@@ -350,10 +348,7 @@ pub +braces+conditional+list+process+repetition-spec : {M : Type 1} → statemen
           (process .ensures .0)),
       (kept-then _ _ _ (s .args .top) (s .args .top + v .count) (omega arith) (z .4) (process .ensures .1)),
     ))
-    (λ c. search needs)
-    (λ c κs. search needs)
-    (λ c κs. search needs)
-    (λ c κs. search needs)
+    (search needs) (search needs) (search needs) (search needs)
     (λ c κs. let s = c .before .before .before .before .before .before .before .before .before .before .before .before .before .before .before in let f = s .pre .1 .0 in
     let v = c .before .before .before .before .before .before .before .before .before .before .before .before .loop in let z = v .inv in
     let h = list-has t (c .before .before .before .before .before .before .before) in let w = h .0 in omega arith)
@@ -426,7 +421,7 @@ pub +braces+conditional+list+process+repetition-spec : {M : Type 1} → statemen
     (process-at t)
     process.Post
     (λ c κs. c .before .before .pre .1 .0 .short)
-    (λ c κs. search needs)
+    (search needs)
     (λ c κs. let past-comments = c .before .before .before .past-comments in let s = c .before .before .before .before .before .before in let f = s .pre .1 .0 in
     let j = past-comments .result in let g = past-comments .ensures .0 in let k = c .before .before .kind-at .ensures in let e = sym k ∙ c .before .if1 .taken in
     let l = inside (s .args .kinds .now) j kind.skip e (omega arith) in omega arith)
@@ -527,8 +522,7 @@ pub +braces+conditional+list+process+repetition-spec : {M : Type 1} → statemen
     (λ c κs. let s = c .before .before .before in let f = s .pre .1 .0 in let l = inside (s .args .kinds .now) (s .args .i) kind.while (s .pre .1 .1) (omega arith) in omega arith)
     (λ c κs. let s = c .before .before .before .before in let f = s .pre .1 .0 in let l = inside (s .args .kinds .now) (s .args .i) kind.while (s .pre .1 .1) (omega arith) in
     (within-of (s .args .kinds .now) (s .args .i + 1) (s .args .n) (c .expression .result) (c .expression .ensures .0), omega arith))
-    (λ c. search needs)
-    (λ c. search needs)
+    (search needs) (search needs)
     (λ c κs. let s = c .before .before .before .before .before .before .before .before .before .before in let f = s .pre .1 .0 in
     let l = inside (s .args .kinds .now) (s .args .i) kind.while (s .pre .1 .1) (omega arith) in let h = repetition-has t (c .before .before .before) in let w = h .0 in
     omega (arith, s .pre .1 .2))

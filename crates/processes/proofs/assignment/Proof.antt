@@ -15,7 +15,7 @@ assignment-spec =
     tie.close
     (tie.spec
     (λ c. let s = c .before .before in let f = s .pre .0 in let l0 = inside (s .args .kinds .now) (s .args .i) kind.name (s .pre .1) (omega arith) in omega arith)
-    (λ c κs. search needs)
+    (search needs)
     (λ c. let s = c .before .before .before .before .before in let f = s .pre .0 in let l0 = inside (s .args .kinds .now) (s .args .i) kind.name (s .pre .1) (omega arith) in omega arith)
     (λ c κs. let s = c .before .before .before .before .before in let f = s .pre .0 in let l0 = inside (s .args .kinds .now) (s .args .i) kind.name (s .pre .1) (omega arith) in
     let k = c .before .before .kind-at .ensures in let e = sym k ∙ c .before .if1 .taken in let l = inside (s .args .kinds .now) (s .args .i + 1) kind.becomes e (omega arith) in

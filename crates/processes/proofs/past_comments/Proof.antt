@@ -25,7 +25,7 @@ past-comments-spec =
     Inv-loop
     μ-loop
     (λ c. comments-none _ _ (c .before .pre))
-    (λ c κs. search needs)
+    (search needs)
     (λ c. let start = c .before .before .before .before in
     let l = inside (start .args .kinds .now) (c .before .before .loop .j) kind.comment (sym (c .before .kind-at .ensures) ∙ c .if1 .taken) (omega arith) in omega (arith, start .good))
     (λ c. let start = c .before .before .before .before in

@@ -15,16 +15,16 @@ array-at-spec =
     tie.close
     (tie.spec
     (λ c. let s = c .before in let l = inside (s .args .kinds .now) (s .args .i) kind.array (s .pre .1) (omega arith) in omega arith)
-    (λ c κs. search needs)
+    (search needs)
     (λ c. let s = c .before .before .before in let l = inside (s .args .kinds .now) (s .args .i) kind.array (s .pre .1) (omega arith) in omega arith)
     (λ c. let s = c .before .before .before in λ values. array-no-name (s .args .kinds .now) values (s .args .i) (s .pre .1) (λ e. c .if1 .taken (c .before .kind-at .ensures ∙ e)))
     (λ c. let s = c .before .before .before in let l = inside (s .args .kinds .now) (s .args .i) kind.array (s .pre .1) (omega arith) in omega arith)
-    (λ c κs. search needs)
+    (search needs)
     (λ c. let s = c .before .before .before .before .before in let l = inside (s .args .kinds .now) (s .args .i) kind.array (s .pre .1) (omega arith) in omega arith)
     (λ c. let s = c .before .before .before .before .before in let e1 = sym (c .before .before .before .kind-at .ensures) ∙ c .before .before .if1 .left in
     λ values. array-no-open (s .args .kinds .now) values (s .args .i) (s .pre .1) e1 (λ e. c .if2 .taken (c .before .kind-at2 .ensures ∙ e)))
     (λ c. let s = c .before .before .before .before .before in let l = inside (s .args .kinds .now) (s .args .i) kind.array (s .pre .1) (omega arith) in omega arith)
-    (λ c κs. search needs)
+    (search needs)
     (λ c. let s = c .before .before .before .before .before .before .before in let l = inside (s .args .kinds .now) (s .args .i) kind.array (s .pre .1) (omega arith) in omega arith)
     (λ c. let if1 = c .before .before .before .before .if1 in let kind-at = c .before .before .before .before .before .kind-at in
     let s = c .before .before .before .before .before .before .before in let e1 = sym (kind-at .ensures) ∙ if1 .left in
@@ -36,7 +36,7 @@ array-at-spec =
     let e1 = sym (kind-at .ensures) ∙ if1 .left in let e2 = sym (kind-at2 .ensures) ∙ c .before .before .before .if2 .left in let k3 = c .before .before .kind-at3 .ensures in
     let u = c .if4 .taken in λ values. array-no-constant (s .args .kinds .now) values (s .args .i) (s .pre .1) e1 e2 (λ e. omega arith) (λ e. omega arith))
     (λ c. let s = c .before .before .before .before .before .before .before .before in let l = inside (s .args .kinds .now) (s .args .i) kind.array (s .pre .1) (omega arith) in omega arith)
-    (λ c κs. search needs)
+    (search needs)
     (λ c. let s = c .before .before .before .before .before .before .before .before .before .before in
     let l = inside (s .args .kinds .now) (s .args .i) kind.array (s .pre .1) (omega arith) in omega arith)
     (λ c. let kind-at3 = c .before .before .before .before .kind-at3 in let if2 = c .before .before .before .before .before .if2 in

@@ -15,16 +15,16 @@ val-at-spec =
     tie.close
     (tie.spec
     (λ c. let s = c .before in let l = inside (s .args .kinds .now) (s .args .i) kind.val (s .pre .1) (omega arith) in omega arith)
-    (λ c κs. search needs)
+    (search needs)
     (λ c. let s = c .before .before .before in let l = inside (s .args .kinds .now) (s .args .i) kind.val (s .pre .1) (omega arith) in omega arith)
     (λ c. let s = c .before .before .before in λ values. val-no-name (s .args .kinds .now) values (s .args .i) (s .pre .1) (λ e. c .if1 .taken (c .before .kind-at .ensures ∙ e)))
     (λ c. let s = c .before .before .before in let l = inside (s .args .kinds .now) (s .args .i) kind.val (s .pre .1) (omega arith) in omega arith)
-    (λ c κs. search needs)
+    (search needs)
     (λ c. let s = c .before .before .before .before .before in let l = inside (s .args .kinds .now) (s .args .i) kind.val (s .pre .1) (omega arith) in omega arith)
     (λ c. let s = c .before .before .before .before .before in let e1 = sym (c .before .before .before .kind-at .ensures) ∙ c .before .before .if1 .left in
     λ values. val-no-equal (s .args .kinds .now) values (s .args .i) (s .pre .1) e1 (λ e. c .if2 .taken (c .before .kind-at2 .ensures ∙ e)))
     (λ c. let s = c .before .before .before .before .before in let l = inside (s .args .kinds .now) (s .args .i) kind.val (s .pre .1) (omega arith) in omega arith)
-    (λ c κs. search needs)
+    (search needs)
     (λ c. let s = c .before .before .before .before .before .before .before in let l = inside (s .args .kinds .now) (s .args .i) kind.val (s .pre .1) (omega arith) in omega arith)
     (λ c. let if1 = c .before .before .before .before .if1 in let kind-at = c .before .before .before .before .before .kind-at in
     let s = c .before .before .before .before .before .before .before in let e1 = sym (kind-at .ensures) ∙ if1 .left in

@@ -13,7 +13,7 @@ pub var-at-spec : {M : Type 1} → statement M
 var-at-spec =
     tie.close (tie.spec
     (λ c. let s = c .before in let l = inside (s .args .kinds .now) (s .args .i) kind.var (s .pre .1) (omega arith) in omega arith)
-    (λ c κs. search needs)
+    (search needs)
     (λ c. let s = c .before .before .before in let l = inside (s .args .kinds .now) (s .args .i) kind.var (s .pre .1) (omega arith) in omega arith)
     (λ c κs. let s = c .before .before .before in let l = inside (s .args .kinds .now) (s .args .i) kind.var (s .pre .1) (omega arith) in
     let l2 = inside (s .args .kinds .now) (s .args .i + 1) kind.name (sym (c .before .kind-at .ensures) ∙ c .if1 .taken) (omega arith) in omega arith)

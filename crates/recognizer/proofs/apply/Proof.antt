@@ -7,7 +7,7 @@ use Rattle.recognizer.proofs.apply.Tie as tie
 
 pub apply-spec : {M : Type 1} → statement M
 apply-spec = tie.close (tie.spec
-    (λ c κs. search needs)
+    (search needs)
     (λ c. let start = c .before .before .before in (
       rw (c .before .before .popped .ensures) (act-kept (start .args .table .now) (start .args .height) (start .args .a) (c .if1 .taken)),
       omega (arith, popped-fits _ _ (start .args .a .pops) (c .before .before .popped .ensures) (start .pre .1)),

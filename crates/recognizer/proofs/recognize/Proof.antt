@@ -27,11 +27,11 @@ recognize-spec =
     Inv-loop
     μ-loop
     (λ c. unfold frames in (omega arith, omega arith, c .before .pre .1, λ values. stands-first _ values))
-    (λ c. search needs)
+    (search needs)
     (λ c κs. let v = c .before .before .before .loop in (v .inv .2, omega (arith, v .inv .1)))
     (λ c. let v = c .before .before .before .before .before .before .loop in let a = c .before .before .advance .ensures in
     (λ values. stands-bad _ values (v .i) (omega arith) _ _ (v .deep) (v .inv .3 values) (a .0) (c .if1 .taken), a .2))
-    (λ c κs. search needs)
+    (search needs)
     (λ c. omega arith)
     (λ c. omega arith)
     (λ c. let v = c .before .before .before .before .before .before .before .loop in let a = c .before .before .before .advance .ensures in (
@@ -40,8 +40,7 @@ recognize-spec =
       a .2,
       λ values. rw (c .deep-by .ensures) (stands-next _ values (v .i) (omega arith) _ _ (v .deep) (v .inv .3 values) (a .0) (c .before .if1 .left)),
     ))
-    (λ c κs. search needs)
-    (λ c κs. search needs)
+    (search needs) (search needs)
     (λ c. let start = c .before .before .before .before .before in let v = c .before .before .before .loop in (
       λ values. rw (c .at-end .ensures, c .before .complete .ensures)
           (subst (λ (h : ℕ). Says (length (start .args .kinds .now)) (reads (unread (start .args .kinds .now) values 0)) (ended (ends-at (v .c .mode) h) (v .deep) (v .i)))

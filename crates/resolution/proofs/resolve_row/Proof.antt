@@ -15,15 +15,7 @@ pub resolve-row-spec : {M : Type 1} → statement M
 resolve-row-spec =
     tie.close
     (tie.spec
-    (λ c κs. search needs)
-    (λ c κs. search needs)
-    (λ c κs. search needs)
-    (λ c κs. search needs)
-    (λ c κs. search needs)
-    (λ c κs. search needs)
-    (λ c κs. search needs)
-    (λ c κs. search needs)
-    (λ c κs. search needs)
+    (search needs) (search needs) (search needs) (search needs) (search needs) (search needs) (search needs) (search needs) (search needs)
     (λ c. let sort-of = c .before .before .before .before .sort-of in let if1 = c .before .before .before .before .before .if1 in
     let x = c .before .before .before .before .before .before .args in
     c .put .ensures ∙ ap (sets (x .table .now) (row-words * x .r))

@@ -23,10 +23,7 @@ equal-spec =
     Inv-loop
     μ-loop
     (λ c. (search needs, refl))
-    (λ c. search needs)
-    (λ c. search needs)
-    (λ c. search needs)
-    (λ c. search needs)
+    (search needs) (search needs) (search needs) (search needs)
     (λ c. let turn = c .before .before .before .before .loop in let start = c .before .before .before .before .before .before in
     (search needs, turn .inv .1 ∙ same-on (start .args .a .now) (start .args .b .now) (turn .i) (omega arith) (omega arith) (c .if2 .taken)))
     (λ c. let turn = c .before .before .before .before .loop in let start = c .before .before .before .before .before .before in

@@ -13,41 +13,27 @@ pub middle-word-spec : {M : Type 1} → statement M
 middle-word-spec =
     tie.close
     (tie.spec
-    (λ c. search needs)
-    (λ c κs. search needs)
-    (λ c κs. search needs)
+    (search needs) (search needs) (search needs)
     (λ c. unfold middle-word same in let start = c .before .before .before .before .before in
     told middle-word (start .args .w .now) (105 ∷ 115 ∷ []) _ _ (c .before .before .equal .ensures) (c .before .if1 .taken) (c .is .ensures))
-    (λ c. search needs)
-    (λ c κs. search needs)
-    (λ c κs. search needs)
+    (search needs) (search needs) (search needs)
     (λ c. unfold middle-word same in let start = c .before .before .before .before .before .before .before .before in
     told middle-word (start .args .w .now) (110 ∷ 111 ∷ 116 ∷ []) _ _ (c .before .before .equal2 .ensures) (c .before .if2 .taken) (c .is2 .ensures))
-    (λ c. search needs)
-    (λ c κs. search needs)
-    (λ c κs. search needs)
+    (search needs) (search needs) (search needs)
     (λ c. unfold middle-word same in let start = c .before .before .before .before .before .before .before .before .before .before .before in
     told middle-word (start .args .w .now) (111 ∷ 114 ∷ []) _ _ (c .before .before .equal3 .ensures) (c .before .if3 .taken) (c .is3 .ensures))
-    (λ c. search needs)
-    (λ c κs. search needs)
-    (λ c κs. search needs)
+    (search needs) (search needs) (search needs)
     (λ c. unfold middle-word same in let start = c .before .before .before .before .before .before .before .before .before .before .before .before .before .before in
     told middle-word (start .args .w .now) (112 ∷ 114 ∷ 111 ∷ 99 ∷ []) _ _ (c .before .before .equal4 .ensures) (c .before .if4 .taken) (c .is4 .ensures))
-    (λ c. search needs)
-    (λ c κs. search needs)
-    (λ c κs. search needs)
+    (search needs) (search needs) (search needs)
     (λ c.
     unfold middle-word same in let c17 = c .before .before .before .before .before .before .before .before .before .before .before .before .before .before .before .before .before in
     told middle-word (c17 .args .w .now) (114 ∷ 101 ∷ 116 ∷ 117 ∷ 114 ∷ 110 ∷ []) _ _ (c .before .before .equal5 .ensures) (c .before .if5 .taken) (c .is5 .ensures))
-    (λ c. search needs)
-    (λ c κs. search needs)
-    (λ c κs. search needs)
+    (search needs) (search needs) (search needs)
     (λ c. unfold middle-word same in let c14 = c .before .before .before .before .before .before .before .before .before .before .before .before .before .before in
     let c20 = c14 .before .before .before .before .before .before in
     told middle-word (c20 .args .w .now) (115 ∷ 107 ∷ 105 ∷ 112 ∷ []) _ _ (c .before .before .equal6 .ensures) (c .before .if6 .taken) (c .is6 .ensures))
-    (λ c. search needs)
-    (λ c κs. search needs)
-    (λ c κs. search needs)
+    (search needs) (search needs) (search needs)
     (λ c. unfold middle-word same in let c14 = c .before .before .before .before .before .before .before .before .before .before .before .before .before .before in
     let c23 = c14 .before .before .before .before .before .before .before .before .before in
     told middle-word (c23 .args .w .now) (115 ∷ 116 ∷ 111 ∷ 112 ∷ []) _ _ (c .before .before .equal7 .ensures) (c .before .if7 .taken) (c .is7 .ensures))

@@ -38,13 +38,7 @@ numeral-spec =
     (tie.spec
     Inv-loop
     μ-loop
-    (λ c. search needs)
-    (λ c. search needs)
-    (λ c κs. search needs)
-    (λ c. search needs)
-    (λ c κs. search needs)
-    (λ c. search needs)
-    (λ c. search needs)
+    (search needs) (search needs) (search needs) (search needs) (search needs) (search needs) (search needs)
     loop-again
     returns
     (λ c. let e = numeral-end (c .before .before .before .args .s .now) (c .before .loop .j) (c .before .before .before .args .base) (c .before .loop .a) (c .loop-test .left) in omega arith))

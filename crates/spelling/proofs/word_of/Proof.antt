@@ -13,40 +13,26 @@ pub word-of-spec : {M : Type 1} → statement M
 word-of-spec =
     tie.close
     (tie.spec
-    (λ c. search needs)
-    (λ c κs. search needs)
-    (λ c κs. search needs)
+    (search needs) (search needs) (search needs)
     (λ c. unfold word same in let start = c .before .before .before .before .before in
     told word (start .args .w .now) (97 ∷ 110 ∷ 100 ∷ []) _ _ (c .before .before .equal .ensures) (c .before .if1 .taken) (c .is .ensures))
-    (λ c. search needs)
-    (λ c κs. search needs)
-    (λ c κs. search needs)
+    (search needs) (search needs) (search needs)
     (λ c. unfold word same in let start = c .before .before .before .before .before .before .before .before in
     told word (start .args .w .now) (97 ∷ 114 ∷ 114 ∷ 97 ∷ 121 ∷ []) _ _ (c .before .before .equal2 .ensures) (c .before .if2 .taken) (c .is2 .ensures))
-    (λ c. search needs)
-    (λ c κs. search needs)
-    (λ c κs. search needs)
+    (search needs) (search needs) (search needs)
     (λ c. unfold word same in let start = c .before .before .before .before .before .before .before .before .before .before .before in
     told word (start .args .w .now) (100 ∷ 111 ∷ []) _ _ (c .before .before .equal3 .ensures) (c .before .if3 .taken) (c .is3 .ensures))
-    (λ c. search needs)
-    (λ c κs. search needs)
-    (λ c κs. search needs)
+    (search needs) (search needs) (search needs)
     (λ c. unfold word same in let start = c .before .before .before .before .before .before .before .before .before .before .before .before .before .before in
     told word (start .args .w .now) (101 ∷ 108 ∷ 115 ∷ 101 ∷ []) _ _ (c .before .before .equal4 .ensures) (c .before .if4 .taken) (c .is4 .ensures))
-    (λ c. search needs)
-    (λ c κs. search needs)
-    (λ c κs. search needs)
+    (search needs) (search needs) (search needs)
     (λ c. unfold word same in let c17 = c .before .before .before .before .before .before .before .before .before .before .before .before .before .before .before .before .before in
     told word (c17 .args .w .now) (102 ∷ 97 ∷ 108 ∷ 115 ∷ 101 ∷ []) _ _ (c .before .before .equal5 .ensures) (c .before .if5 .taken) (c .is5 .ensures))
-    (λ c. search needs)
-    (λ c κs. search needs)
-    (λ c κs. search needs)
+    (search needs) (search needs) (search needs)
     (λ c. unfold word same in let c14 = c .before .before .before .before .before .before .before .before .before .before .before .before .before .before in
     let c20 = c14 .before .before .before .before .before .before in
     told word (c20 .args .w .now) (102 ∷ 117 ∷ 110 ∷ 99 ∷ []) _ _ (c .before .before .equal6 .ensures) (c .before .if6 .taken) (c .is6 .ensures))
-    (λ c. search needs)
-    (λ c κs. search needs)
-    (λ c κs. search needs)
+    (search needs) (search needs) (search needs)
     (λ c. unfold word same in let c14 = c .before .before .before .before .before .before .before .before .before .before .before .before .before .before in
     let c23 = c14 .before .before .before .before .before .before .before .before .before in
     told word (c23 .args .w .now) (105 ∷ 102 ∷ []) _ _ (c .before .before .equal7 .ensures) (c .before .if7 .taken) (c .is7 .ensures))

@@ -13,11 +13,7 @@ pub jump-spec : {M : Type 1} → statement M
 jump-spec =
     tie.close
     (tie.spec
-    (λ c. search needs)
-    (λ c. search needs)
-    (λ c κs. search needs)
-    (λ c. search needs)
-    (λ c κs. search needs)
+    (search needs) (search needs) (search needs) (search needs) (search needs)
     (λ c. unfold table in rw (c .before .before .widen .ensures) (sym (row-hit 27 _ (lit< tt) (omega arith) (c .if1 .taken))))
     (λ c. unfold table in rw (c .before .before .before .widen .ensures) (sym (row-hit 28 _ (lit< tt) (c .before .if1 .left) (c .if2 .taken))))
     (λ c. unfold table clear in sym (row-miss 53760 55808 _ refl (c .before .if2 .left) (c .if3 .taken)))

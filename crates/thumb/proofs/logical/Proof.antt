@@ -13,8 +13,7 @@ pub logical-spec : {M : Type 1} → statement M
 logical-spec =
     tie.close
     (tie.spec
-    (λ c. search needs)
-    (λ c. search needs)
+    (search needs) (search needs)
     (λ c. unfold table in sym (row-hit 8 _ (lit< tt) (omega arith) (c .if1 .taken)))
     (λ c. unfold table in sym (row-hit 9 _ (lit< tt) (c .before .if1 .left) (c .if2 .taken)))
     (λ c. unfold table in sym (row-hit 10 _ (lit< tt) (c .before .if2 .left) (c .if3 .taken)))

@@ -13,13 +13,7 @@ pub low-spec : {M : Type 1} → statement M
 low-spec =
     tie.close
     (tie.spec
-    (λ c. search needs)
-    (λ c. search needs)
-    (λ c. search needs)
-    (λ c. search needs)
-    (λ c. search needs)
-    (λ c. search needs)
-    (λ c κs. search needs)
+    (search needs) (search needs) (search needs) (search needs) (search needs) (search needs) (search needs)
     (λ c. unfold table in sym (row-hit 0 _ (lit< tt) (omega arith) (c .if1 .taken)))
     (λ c. unfold table in rw (c .before .before .swap32 .ensures) (sym (row-hit 1 _ (lit< tt) (c .before .if1 .left) (c .if2 .taken))))
     (λ c. unfold table in rw (c .before .before .before .swap32 .ensures) (sym (row-hit 2 _ (lit< tt) (c .before .if2 .left) (c .if3 .taken))))

@@ -13,12 +13,7 @@ pub memory-spec : {M : Type 1} → statement M
 memory-spec =
     tie.close
     (tie.spec
-    (λ c. search needs)
-    (λ c. search needs)
-    (λ c. search needs)
-    (λ c. search needs)
-    (λ c. search needs)
-    (λ c. search needs)
+    (search needs) (search needs) (search needs) (search needs) (search needs) (search needs)
     (λ c. unfold table in sym (row-hit 16 _ (lit< tt) (omega arith) (c .if1 .taken)))
     (λ c. unfold table in sym (row-hit 17 _ (lit< tt) (c .before .if1 .left) (c .if2 .taken)))
     (λ c. unfold table clear in sym (row-miss 20992 22528 _ refl (c .before .if2 .left) (c .if3 .taken)))

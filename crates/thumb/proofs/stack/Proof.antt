@@ -13,9 +13,7 @@ pub stack-spec : {M : Type 1} → statement M
 stack-spec =
     tie.close
     (tie.spec
-    (λ c. search needs)
-    (λ c. search needs)
-    (λ c. search needs)
+    (search needs) (search needs) (search needs)
     (λ c. unfold table in sym (row-hit 21 _ (lit< tt) (omega arith) (c .if1 .taken)))
     (λ c. unfold table in sym (row-hit 22 _ (lit< tt) (c .before .if1 .left) (c .if2 .taken)))
     (λ c. unfold table in sym (row-hit 23 _ (lit< tt) (c .before .if2 .left) (c .if3 .taken)))

@@ -23,11 +23,8 @@ pub named-spec : {M : Type 1} → statement M
 named-spec =
     tie.close
     (tie.spec
-    (λ c κs. search needs)
-    (λ c. search needs)
-    (λ c. search needs)
-    (λ c. search needs)
+    (search needs) (search needs) (search needs) (search needs)
     (λ c. let h = simp length-drop at (span-length Name (drop (c .before .before .before .args .i) (c .before .before .before .args .s .now))) in omega arith)
-    (λ c κs. search needs)
+    (search needs)
     returns
     (λ c. unfold named in rw (← c .before .span .ensures, lt-leb _ 32 (c .if1 .left))))

@@ -30,10 +30,10 @@ pub number-spec : {M : Type 1} → statement M
 number-spec =
     tie.close
     (tie.spec
-    (λ c κs. search needs)
+    (search needs)
     (λ c. unfold number in rw (← c .before .span .ensures) (search tests depth 20))
-    (λ c κs. search needs)
+    (search needs)
     (λ c. let start = c .before .before .before .before .before in let h = simp length-drop at (span-length (Digit (start .args .base)) (drop (start .args .i) (start .args .s .now))) in omega arith)
-    (λ c. search needs)
+    (search needs)
     returns-2
     returns-3)

@@ -42,7 +42,7 @@ scan-spec =
     (λ c. let start = c .before .before .before .before in
     (omega arith, omega arith, start .pre .1 .0, start .pre .1 .1 .0, start .pre .1 .1 .1, outcome-short (start .args .source .now) (start .pre .0) ∙ before-none _ _ _ _))
     (λ c κs. (omega arith, c .before .before .before .before .before .before .pre .0))
-    (λ c. search needs)
+    (search needs)
     (λ c. omega arith)
     (λ c. omega arith)
     (λ c. let turn = c .before .before .before .before .loop in let start = c .before .before .before .before .before .before .before .before .before in let v = turn .inv in (
@@ -55,20 +55,14 @@ scan-spec =
           (step-separator (start .args .source .now) (turn .i) (turn .n) (c .before .before .before .loop-test .taken) (c .before .before .lexeme-at .result)
           (c .before .before .lexeme-at .ensures) (c .enum-told .given .1)),
     ))
-    (λ c. search needs)
-    (λ c. search needs)
-    (λ c. search needs)
-    (λ c. search needs)
+    (search needs) (search needs) (search needs) (search needs)
     (λ c. let lexeme-at = c .before .before .before .lexeme-at in let loop-test = c .before .before .before .before .loop-test in
     let turn = c .before .before .before .before .before .loop in let start = c .before .before .before .before .before .before .before .before .before .before in (
       turn .inv .5 ∙ ap (before _) (step-broken (start .args .source .now) (turn .i) (turn .n) (loop-test .taken) (lexeme-at .result) _ (lexeme-at .ensures) (c .before .found .given .1))
           ∙ before-refused _ _ _,
       tt,
     ))
-    (λ c. search needs)
-    (λ c. search needs)
-    (λ c. search needs)
-    (λ c. search needs)
+    (search needs) (search needs) (search needs) (search needs)
     (λ c. let lexeme-at = c .before .before .before .before .lexeme-at in let loop-test = c .before .before .before .before .before .loop-test in
     let turn = c .before .before .before .before .before .before .loop in let start = c .before .before .before .before .before .before .before .before .before .before .before in (
       turn .inv .5 ∙ ap (before _)
@@ -76,13 +70,9 @@ scan-spec =
           (c .if1 .taken)) ∙ before-refused _ _ _,
       tt,
     ))
-    (λ c. search needs)
+    (search needs)
     (λ c. omega arith)
-    (λ c. search needs)
-    (λ c. search needs)
-    (λ c. search needs)
-    (λ c. search needs)
-    (λ c. search needs)
+    (search needs) (search needs) (search needs) (search needs) (search needs)
     (λ c. let lexeme-at = c .before .before .before .before .lexeme-at in let loop-test = c .before .before .before .before .before .loop-test in
     let turn = c .before .before .before .before .before .before .loop in let start = c .before .before .before .before .before .before .before .before .before .before .before in
     let f = step-fits (start .args .source .now) (turn .i) (turn .n) (loop-test .taken) (lexeme-at .result) _ _ _ (lexeme-at .ensures) (c .before .before .found2 .given .1) in
@@ -92,8 +82,6 @@ scan-spec =
     let f = step-fits (start .args .source .now) (turn .i) (turn .n) (loop-test .taken) (lexeme-at .result) _ _ _ (lexeme-at .ensures) (c .before .before .found2 .given .1) in
     omega arith)
     loop-again-2
-    (λ c. search needs)
-    (λ c. search needs)
-    (λ c. search needs)
+    (search needs) (search needs) (search needs)
     (λ c. let start = c .before .before .before .before .before .before in
     (c .before .loop .inv .5 ∙ ap (before _) (scan-end (start .args .source .now) (c .before .loop .i) (c .before .loop .n) (c .loop-test .left)) ∙ before-read _, omega arith)))

@@ -8,7 +8,6 @@ use Rattle.exec.proofs.Machine.branch.Tie as tie
 
 pub branch-spec : {M : Type 1} → statement M
 branch-spec = tie.close (tie.spec
-    (λ c κs. search needs)
-    (λ c κs. search needs)
+    (search needs) (search needs)
     (λ c. unfold branch in c .jump .ensures ∙ rw (c .before .if1 .taken))
     (λ c. unfold branch in c .next .ensures ∙ rw (c .before .if1 .left)))

@@ -7,6 +7,5 @@ use Rattle.exec.proofs.Machine.link.Tie as tie
 
 pub link-spec : {M : Type 1} → statement M
 link-spec = tie.close (tie.spec
-    (λ c κs. search needs)
-    (λ c κs. search needs)
+    (search needs) (search needs)
     (λ c. unfold link jump in rw (c .jump .ensures, c .before .add .ensures)))

@@ -10,7 +10,5 @@ use Rattle.exec.proofs.Machine.reg.Tie as tie
 
 pub reg-spec : {M : Type 1} → statement M
 reg-spec = tie.close (tie.spec
-    (λ c. search needs)
-    (λ c. search needs)
-    (λ c. search needs)
+    (search needs) (search needs) (search needs)
     (λ c. let x = c .before .args in let g : length (x .t1 .regs) ≡ 8 = search needs in let o : length (x .t1 .regs) ≤ x .r = omega arith in sym (List·getD-eq-default (x .t1 .regs) 0 o)))

@@ -7,5 +7,5 @@ use Rattle.exec.proofs.Machine.result.Tie as tie
 
 pub result-spec : {M : Type 1} → statement M
 result-spec = tie.close (tie.spec
-    (λ c κs. search needs)
+    (search needs)
     (λ c. unfold result takes in rw (c .takes .ensures)))

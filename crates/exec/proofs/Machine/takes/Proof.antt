@@ -12,9 +12,7 @@ use Rattle.exec.proofs.Machine.takes.Tie as tie
 
 pub takes-spec : {M : Type 1} → statement M
 takes-spec = tie.close (tie.spec
-    (λ c κs. search needs)
-    (λ c. search needs)
-    (λ c. search needs)
+    (search needs) (search needs) (search needs)
     (λ c. unfold takes in rw (c .before .add .ensures))
     (λ c. unfold takes in let g : length (c .before .before .args .t1 .regs) ≡ 8 = search needs in let o : 8 ≤ c .before .before .args .d = c .if1 .left in
     rw (c .before .add .ensures, set-out (c .before .before .args .t1 .regs) (c .before .before .args .d) (c .before .before .args .v) (omega arith))))
