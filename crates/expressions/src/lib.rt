@@ -6,7 +6,7 @@ ghost use lib.Seq.{sets};
 ghost use lib.Dec.{eqb};
 ghost use mathlib.Core.Bool.{false};
 ghost use Rattle.word.specs.Choice.{pick};
-ghost use Rattle.spelling.specs.Kinds as token;
+ghost use Rattle.spelling.specs.Kinds as tokens;
 ghost use Rattle.program.specs.Layout.{«row-words»};
 ghost use Rattle.grammar.specs.Grammar.{«is-monadic», «is-diadic», «is-associative»};
 ghost use Rattle.grammar.specs.Rows.{row, «monadic-number»};
@@ -186,7 +186,7 @@ pub fn expression(kinds: &[u8], values: &[u32], table: &mut [u32; 4096], n: usiz
 
 // The operands after an operator o, grouped to the right.
 fn chain(kinds: &[u8], values: &[u32], table: &mut [u32; 4096], o: u8, n: usize, i: usize) -> Read
-    requires { ⌜ (Fit (now kinds) (now values) n i) × (token.«operator-base» < o) ⌝ }
+    requires { ⌜ (Fit (now kinds) (now values) n i) × (tokens.«operator-base» < o) ⌝ }
     ensures { λ r. ⌜ Reads («chain-form» o) (now (kinds .entry)) (now (values .entry)) i n (now (table .entry)) r (now (table .exit)) ⌝ }
 {
     match operand(kinds, values, table, n, i) {

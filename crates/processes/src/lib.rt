@@ -13,7 +13,7 @@ use spelling::kind;
 ghost use mathlib.Core.Path.{_≡_};
 ghost use Prim.Native.Nat.{_+_, _<_, _≤_};
 ghost use lib.ListN.{length, getD};
-ghost use Rattle.spelling.specs.Kinds as token;
+ghost use Rattle.spelling.specs.Kinds as tokens;
 ghost use Rattle.expressions.specs.Reads.{Reads, Fit};
 ghost use Rattle.processes.specs.Forms.{«process-form», «list-form», Comments};
 ghost use Rattle.processes.specs.Lists.{Kept, joints};
@@ -26,7 +26,7 @@ fn element_assignment(
     n: usize,
     i: usize,
 ) -> Read
-    requires { ⌜ (Fit (now kinds) (now values) n i) × (getD (now kinds) i 0 ≡ token.name) × (getD (now kinds) (i + 1) 0 ≡ token.«open-subscript») ⌝ }
+    requires { ⌜ (Fit (now kinds) (now values) n i) × (getD (now kinds) i 0 ≡ tokens.name) × (getD (now kinds) (i + 1) 0 ≡ tokens.«open-subscript») ⌝ }
     ensures { λ r. ⌜ Reads «process-form» (now (kinds .entry)) (now (values .entry)) i n (now (table .entry)) r (now (table .exit)) ⌝ }
 {
     let e = expression(kinds, values, table, n, i + 2);
@@ -43,7 +43,7 @@ fn element_assignment(
 
 // An assignment to the name at token i.
 fn assignment(kinds: &[u8], values: &[u32], table: &mut [u32; 4096], n: usize, i: usize) -> Read
-    requires { ⌜ (Fit (now kinds) (now values) n i) × (getD (now kinds) i 0 ≡ token.name) ⌝ }
+    requires { ⌜ (Fit (now kinds) (now values) n i) × (getD (now kinds) i 0 ≡ tokens.name) ⌝ }
     ensures { λ r. ⌜ Reads «process-form» (now (kinds .entry)) (now (values .entry)) i n (now (table .entry)) r (now (table .exit)) ⌝ }
 {
     let k = kind_at(kinds, i + 1);
@@ -61,7 +61,7 @@ fn assignment(kinds: &[u8], values: &[u32], table: &mut [u32; 4096], n: usize, i
 // The first token from i on that is no comment.
 fn past_comments(kinds: &[u8], i: usize) -> usize
     requires { ⌜ i ≤ length (now kinds) ⌝ }
-    ensures { λ j. ⌜ (Comments (now (kinds .entry)) i j) × (getD (now (kinds .entry)) j 0 ≡ token.comment → ⊥) ⌝ }
+    ensures { λ j. ⌜ (Comments (now (kinds .entry)) i j) × (getD (now (kinds .entry)) j 0 ≡ tokens.comment → ⊥) ⌝ }
 {
     let mut j = i;
     while kind_at(kinds, j) == kind::COMMENT {
@@ -153,7 +153,7 @@ fn braces(
     i: usize,
     top: usize,
 ) -> Read
-    requires { ⌜ (Fit (now kinds) (now values) n i) × (getD (now kinds) i 0 ≡ token.«open-brace») × (top ≤ i) ⌝ }
+    requires { ⌜ (Fit (now kinds) (now values) n i) × (getD (now kinds) i 0 ≡ tokens.«open-brace») × (top ≤ i) ⌝ }
     ensures { λ r. ⌜ (Reads «process-form» (now (kinds .entry)) (now (values .entry)) i n (now (table .entry)) r (now (table .exit))) × (Kept (now (pending .entry)) (now (pending .exit)) top) ⌝ }
 {
     if kind_at(kinds, i + 1) == kind::CLOSE_BRACE {
@@ -215,7 +215,7 @@ fn conditional(
     i: usize,
     top: usize,
 ) -> Read
-    requires { ⌜ (Fit (now kinds) (now values) n i) × (getD (now kinds) i 0 ≡ token.if) × (top ≤ i) ⌝ }
+    requires { ⌜ (Fit (now kinds) (now values) n i) × (getD (now kinds) i 0 ≡ tokens.if) × (top ≤ i) ⌝ }
     ensures { λ r. ⌜ (Reads «process-form» (now (kinds .entry)) (now (values .entry)) i n (now (table .entry)) r (now (table .exit))) × (Kept (now (pending .entry)) (now (pending .exit)) top) ⌝ }
 {
     let e = expression(kinds, values, table, n, i + 1);
@@ -245,7 +245,7 @@ fn repetition(
     i: usize,
     top: usize,
 ) -> Read
-    requires { ⌜ (Fit (now kinds) (now values) n i) × (getD (now kinds) i 0 ≡ token.while) × (top ≤ i) ⌝ }
+    requires { ⌜ (Fit (now kinds) (now values) n i) × (getD (now kinds) i 0 ≡ tokens.while) × (top ≤ i) ⌝ }
     ensures { λ r. ⌜ (Reads «process-form» (now (kinds .entry)) (now (values .entry)) i n (now (table .entry)) r (now (table .exit))) × (Kept (now (pending .entry)) (now (pending .exit)) top) ⌝ }
 {
     let e = expression(kinds, values, table, n, i + 1);

@@ -7,7 +7,7 @@ ghost use mathlib.Core.Path.{_≡_};
 ghost use Prim.Native.Nat.{ℕ, _+_, _≤_};
 ghost use mathlib.Core.List.{List};
 ghost use lib.ListN.{length, getD};
-ghost use Rattle.spelling.specs.Kinds as token;
+ghost use Rattle.spelling.specs.Kinds as tokens;
 ghost use Rattle.grammar.specs.Automaton.{reads};
 ghost use Rattle.grammar.specs.Nesting.{Bounded};
 ghost use Rattle.grammar.specs.Tokens.{unread};
@@ -45,7 +45,7 @@ fn end(kinds: &[u8], j: usize, d: usize) -> Specified
 
 // `var n` at token i.
 fn var_at(kinds: &[u8], i: usize) -> Specified
-    requires { ⌜ (length (now kinds) ≤ 1024) × (getD (now kinds) i 0 ≡ token.var) ⌝ }
+    requires { ⌜ (length (now kinds) ≤ 1024) × (getD (now kinds) i 0 ≡ tokens.var) ⌝ }
     ensures { λ r. ⌜ ((values : List ℕ) → «Reads-specification» (now (kinds .entry)) values i r) ⌝ }
 {
     if kind_at(kinds, i + 1) == kind::NAME {
@@ -56,7 +56,7 @@ fn var_at(kinds: &[u8], i: usize) -> Specified
 
 // `array n [ c ]` at token i.
 fn array_at(kinds: &[u8], i: usize) -> Specified
-    requires { ⌜ (length (now kinds) ≤ 1024) × (getD (now kinds) i 0 ≡ token.array) ⌝ }
+    requires { ⌜ (length (now kinds) ≤ 1024) × (getD (now kinds) i 0 ≡ tokens.array) ⌝ }
     ensures { λ r. ⌜ ((values : List ℕ) → «Reads-specification» (now (kinds .entry)) values i r) ⌝ }
 {
     if kind_at(kinds, i + 1) != kind::NAME {
@@ -80,7 +80,7 @@ fn array_at(kinds: &[u8], i: usize) -> Specified
 
 // `val n = c` at token i.
 fn val_at(kinds: &[u8], i: usize) -> Specified
-    requires { ⌜ (length (now kinds) ≤ 1024) × (getD (now kinds) i 0 ≡ token.val) ⌝ }
+    requires { ⌜ (length (now kinds) ≤ 1024) × (getD (now kinds) i 0 ≡ tokens.val) ⌝ }
     ensures { λ r. ⌜ ((values : List ℕ) → «Reads-specification» (now (kinds .entry)) values i r) ⌝ }
 {
     if kind_at(kinds, i + 1) != kind::NAME {
@@ -101,7 +101,7 @@ fn val_at(kinds: &[u8], i: usize) -> Specified
 
 // A specification at token i, with its `;`.
 fn specification(kinds: &[u8], i: usize) -> Specified
-    requires { ⌜ (length (now kinds) ≤ 1024) × (token.var ≤ getD (now kinds) i 0) × (getD (now kinds) i 0 ≤ token.val) ⌝ }
+    requires { ⌜ (length (now kinds) ≤ 1024) × (tokens.var ≤ getD (now kinds) i 0) × (getD (now kinds) i 0 ≤ tokens.val) ⌝ }
     ensures { λ r. ⌜ ((values : List ℕ) → «Reads-specification» (now (kinds .entry)) values i r) ⌝ }
 {
     let k = kind_at(kinds, i);

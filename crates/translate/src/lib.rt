@@ -115,7 +115,7 @@ fn accept_rows(
     accept(rows, tokens, count, words, depth, table, code)
 }
 
-// A source, a lent table of words and a lent code buffer of bytes. No heap; working arrays of 31 KB, and the stack that the recursion
+// A source, a lent table of words and a lent code buffer of bytes. No heap; working arrays of 30 KB, and the stack that the recursion
 // over nested parts takes (docs/BENCHMARKS.md). Nothing is written to the lent buffers before the decision is made.
 pub fn translate(source: &[u8], table: &mut [u32], code: &mut [u8]) -> Translation
     ensures { λ r. ⌜ left r (now (table .exit)) (now (code .exit)) ≡ translation (now (source .entry)) (length (now (table .entry))) (length (now (code .entry))) ⌝ }
