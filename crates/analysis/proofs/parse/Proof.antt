@@ -35,4 +35,4 @@ parse-spec =
     let s = subst (λ (r : Recognized). Says (length (a .kinds .now)) (reads (unread (a .kinds .now) (a .values .now) 0)) r) (c .enum-told .given .1)
     (c .before .before .recognize .ensures .0 (a .values .now)) in
     λ o. deep-program (a .source .now) (a .kinds .now) (a .places .now) (a .values .now) (q .1 .1 .0) (q .1 .1 .1 .0) (s .0) (s .1) (s .2))
-    (search needs))
+    (λ c. search needs))

@@ -37,4 +37,4 @@ answer-spec =
     slice-aggregate-write
     write-requires
     (search needs)
-    (search needs))
+    (λ c. search needs))

@@ -25,4 +25,4 @@ main-spec =
     (λ c. sym (length-replicate {A = ℕ} _ 0))
     (λ c κs. le-of-eq (sym (length-replicate {A = ℕ} _ 0)))
     (search needs) (search needs) (search needs)
-    (search needs))
+    (λ c. search needs))

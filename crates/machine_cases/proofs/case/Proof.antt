@@ -11,4 +11,4 @@ case-spec = tie.close (tie.spec
     (search needs)
     (λ c. sym (length-take-le (c .before .before .before .before .before .args .length) (c .before .before .before .before .before .args .code .now) (c .before .if1 .taken)))
     (search needs) (search needs)
-    (search needs))
+    (λ c. search needs))

@@ -9,4 +9,4 @@ popped-spec = tie.close (tie.spec
     (search needs)
     (λ c. rw (c .before .if1 .taken) (omega arith))
     (λ c. rw (c .before .if1 .taken) (omega (arith, c .if2 .left)))
-    (search needs))
+    (λ c. search needs))

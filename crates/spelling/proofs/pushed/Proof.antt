@@ -11,4 +11,4 @@ pushed-spec = tie.close (tie.spec
     (λ c. let m = mul-le-mul (c .pre .1 .0) (c .pre .0) in omega arith)
     (λ c. let m = mul-le-mul (c .pre .1 .0) (c .pre .0) in omega arith)
     (search needs)
-    (search needs))
+    (λ c. search needs))

@@ -9,4 +9,4 @@ pub tokens-spec : {M : Type 1} → statement M
 tokens-spec = tie.close (tie.spec
     (λ c. (outcome-long (c .before .before .args .source .now) (c .if1 .taken), tt))
     (search needs)
-    (search needs))
+    (λ c. search needs))

@@ -18,4 +18,4 @@ all-spec =
     Inv-loop
     μ-loop
     (search needs) (search needs) (search needs) (search needs) (search needs)
-    (search needs))
+    (λ c. search needs))
