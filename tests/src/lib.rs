@@ -3,6 +3,7 @@
 
 pub mod arm;
 pub mod image;
+pub mod plain;
 pub mod proved;
 pub mod random;
 pub mod rendering;
