@@ -1,9 +1,9 @@
--- `exec::Machine::jump` meets its contract: the answers are the definition's, test by test and call by call.
+-- `exec::Core::jump` meets its contract: the answers are the definition's, test by test and call by call.
 -- Rests on the definitions that its contract cites; assumes nothing.
 use Rattle.exec.specs.State.{jump}
 use borrow.Author.Needs.{needs}
-use Rattle.exec.proofs.Machine.jump.Statement.{statement}
-use Rattle.exec.proofs.Machine.jump.Tie as tie
+use Rattle.exec.proofs.Core.jump.Statement.{statement}
+use Rattle.exec.proofs.Core.jump.Tie as tie
 
 pub jump-spec : {M : Type 1} → statement M
 jump-spec = tie.close (tie.spec

@@ -1,9 +1,9 @@
--- `exec::Machine::moves` meets its contract: the answers are the definition's, test by test and call by call.
+-- `exec::Core::moves` meets its contract: the answers are the definition's, test by test and call by call.
 -- Rests on the definitions that its contract cites; assumes nothing.
 use Rattle.exec.specs.State.{moves}
 use borrow.Author.Needs.{needs}
-use Rattle.exec.proofs.Machine.moves.Statement.{statement}
-use Rattle.exec.proofs.Machine.moves.Tie as tie
+use Rattle.exec.proofs.Core.moves.Statement.{statement}
+use Rattle.exec.proofs.Core.moves.Tie as tie
 
 pub moves-spec : {M : Type 1} → statement M
 moves-spec = tie.close (tie.spec
