@@ -328,6 +328,18 @@ fn functions(of: &str, code: &str) -> Vec<Function> {
     found
 }
 
+/// The public calls below the exported ones: these have no premise either.
+const PUBLIC: [&str; 8] = [
+    "translate::translate",
+    "thumb::encode",
+    "thumb::decode",
+    "machine::start",
+    "machine::step",
+    "machine::run",
+    "text_report::report",
+    "text_listing::listing",
+];
+
 /// Whether what stands before `fn` makes it a function's first line.
 fn is_head(before: &str) -> bool {
     before.split_whitespace().all(|word| ["pub", "const", "extern", "\"C\""].contains(&word))
@@ -359,13 +371,21 @@ fn functions_with_a_requires() {
     wrong.extend(listed.difference(&public).map(|name| format!("{name} has no requires, or is not public")));
     let exported: Vec<&Function> = all.iter().filter(|function| function.exported).collect();
     wrong.extend(exported.iter().filter(|f| f.requires).map(|f| format!("{} is exported", f.name)));
+    for name in PUBLIC {
+        let call = all.iter().find(|function| function.name == name).unwrap_or_else(|| panic!("{name}"));
+        if call.requires || !call.public {
+            wrong.push(format!("{name} is a public call"));
+        }
+    }
     no_complaints(&wrong);
     assert_eq!(exported.len(), 6, "the calls of the header");
     print(&format!(
-        "documents: {} functions between the crates have a requires, all listed; {} private ones; none of the {} exported",
+        "documents: {} functions between the crates have a requires, all listed; {} private ones; none of the {} exported \
+         and {} public calls",
         public.len(),
         asks(false).count(),
-        exported.len()
+        exported.len(),
+        PUBLIC.len()
     ));
 }
 
