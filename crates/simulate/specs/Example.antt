@@ -91,11 +91,8 @@ module _ (e : Effect) (o : Orderly five lent-words e) where
   five-ended h = let x = o .ended h in (x .j, x .ends, x .same-words)
 
 module _ (a : Called) (o : Answered five lent-words a) where
-  five-answered : a .status < 2
-  five-answered = o .not-refused
-
-  five-counted : a .count ≡ length (a .tries)
-  five-counted = o .counted
+  five-answered : (a .status < 2) × (a .count ≡ length (a .tries))
+  five-answered = (o .not-refused, o .counted)
 
   five-left : (0x20000004 ≤ a .machine .sp) × (a .machine .sp ≤ 0x20000034) × (drop 13 (a .words) ≡ 99 ∷ [])
   unfolding five data-words lent-words
