@@ -175,6 +175,38 @@ fn proofs_in(text: &str) -> Vec<&str> {
     code.filter(|line| PROOFS.iter().any(|word| stands_in(line, word))).collect()
 }
 
+/// What is stated, not defined: signatures outside records whose result is an equation, a comparison or falsehood. A
+/// definition's result is a value or a type.
+fn laws_in(text: &str) -> Vec<&str> {
+    let code = text.lines().map(|line| line.split("--").next().expect("a beginning"));
+    let (mut record, mut pushed) = (None, false);
+    let mut laws = Vec::new();
+    for line in code.filter(|line| !line.trim().is_empty()) {
+        let words = line.trim_start();
+        let indentation = line.len() - words.len();
+        let declared = words.trim_start_matches("abbrev ").trim_start_matches("unfoldable ");
+        let declared = declared.trim_start_matches("pub ");
+        if record.is_some_and(|outside| indentation <= outside) {
+            record = None;
+        }
+        if declared.starts_with("record ") && words.trim_end().ends_with(" where") {
+            record = Some(indentation);
+        }
+        let signature = declared.split_once(" : ").filter(|(name, _)| !name.contains(char::is_whitespace));
+        let signature = signature.map(|(_, result)| result).or_else(|| words.strip_prefix('→'));
+        let result = signature.and_then(|result| result.rsplit('→').next()).unwrap_or("");
+        // where the signature goes on, what ended the line before was a premise
+        if pushed && words.starts_with('→') {
+            laws.pop();
+        }
+        pushed = record.is_none() && [" ≡ ", " ≤ ", " < ", "⊥"].iter().any(|sign| result.contains(sign));
+        if pushed {
+            laws.push(line);
+        }
+    }
+    laws
+}
+
 /// The table's rows: file and number of lines.
 fn believed(readme: &str) -> Vec<(String, usize)> {
     let rows = section(readme, "What a reader must believe").lines().filter(|line| line.starts_with("| ["));
@@ -220,10 +252,11 @@ fn what_a_reader_must_believe() {
     let rests_on = closure(&STATEMENTS);
     assert!(rests_on.len() > 30, "the statements were not read as they are written");
     no_complaints(&wrongly_believed(&readme, &rests_on));
-    let proofs = |(file, text): (&String, &String)| -> Vec<String> {
-        proofs_in(text).into_iter().map(|line| format!("{file} proves: {line}")).collect()
+    let more_than_defined = |(file, text): (&String, &String)| -> Vec<String> {
+        let lines = proofs_in(text).into_iter().chain(laws_in(text));
+        lines.map(|line| format!("{file} is not definitions alone: {line}")).collect()
     };
-    no_complaints(&rests_on.iter().flat_map(proofs).collect::<Vec<_>>());
+    no_complaints(&rests_on.iter().flat_map(more_than_defined).collect::<Vec<_>>());
     let lines: usize = rests_on.values().map(|text| text.lines().count()).sum();
     print(&format!("documents: the statements rest on {} files, {lines} lines, all listed", rests_on.len()));
 }
@@ -249,6 +282,10 @@ fn wrong_lists_are_noticed() {
     assert_eq!(proofs_in("a = refl"), ["a = refl"]);
     assert_eq!(proofs_in("a = b (omega arith) -- by arithmetic").len(), 1);
     assert!(proofs_in("a-refl = refls -- refl").is_empty());
+    let law = "pub a : (n : ℕ) → n ≡ n";
+    assert_eq!(laws_in(&format!("pub record R : Type 0 where\n  pub b : 1 ≡ 1\n{law}\na n = b n")), [law]);
+    assert_eq!(laws_in("a : (n : ℕ) → 1 ≤ n\n    → n < 1 → ⊥").len(), 1);
+    assert!(laws_in("pub P : ℕ → Type 0\nP n = (m : ℕ) × (n ≡ m)\nf : (n : ℕ) → n ≤ 1\n    → ℕ").is_empty());
     let code = "fn a()\n    requires { x }\n{\n}\npub fn b() {}\npub extern \"C\" fn c()\n    requires { x }\n{\n}\n";
     let told = functions("d", code).into_iter().map(|f| (f.name, f.public, f.exported, f.requires));
     let want = [("d::a", false, false, true), ("d::b", true, false, false), ("d::c", true, true, true)];
@@ -291,6 +328,18 @@ fn functions(of: &str, code: &str) -> Vec<Function> {
     found
 }
 
+/// The public calls below the exported ones: these have no premise either.
+const PUBLIC: [&str; 8] = [
+    "translate::translate",
+    "thumb::encode",
+    "thumb::decode",
+    "machine::start",
+    "machine::step",
+    "machine::run",
+    "text_report::report",
+    "text_listing::listing",
+];
+
 /// Whether what stands before `fn` makes it a function's first line.
 fn is_head(before: &str) -> bool {
     before.split_whitespace().all(|word| ["pub", "const", "extern", "\"C\""].contains(&word))
@@ -322,13 +371,21 @@ fn functions_with_a_requires() {
     wrong.extend(listed.difference(&public).map(|name| format!("{name} has no requires, or is not public")));
     let exported: Vec<&Function> = all.iter().filter(|function| function.exported).collect();
     wrong.extend(exported.iter().filter(|f| f.requires).map(|f| format!("{} is exported", f.name)));
+    for name in PUBLIC {
+        let call = all.iter().find(|function| function.name == name).unwrap_or_else(|| panic!("{name}"));
+        if call.requires || !call.public {
+            wrong.push(format!("{name} is a public call"));
+        }
+    }
     no_complaints(&wrong);
     assert_eq!(exported.len(), 6, "the calls of the header");
     print(&format!(
-        "documents: {} functions between the crates have a requires, all listed; {} private ones; none of the {} exported",
+        "documents: {} functions between the crates have a requires, all listed; {} private ones; none of the {} exported \
+         and {} public calls",
         public.len(),
         asks(false).count(),
-        exported.len()
+        exported.len(),
+        PUBLIC.len()
     ));
 }
 
