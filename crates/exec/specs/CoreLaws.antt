@@ -38,7 +38,8 @@ module _ (a b c d e f g h : ℕ) where
       (let o : length words ≤ suc (suc (suc (suc (suc (suc (suc (suc r))))))) = omega arith in sym (List·getD-eq-default words 0 o))
 
   pub set-by-tests : (r v : ℕ) →
-      pick (eqb r 0) v a ∷ pick (eqb r 1) v b ∷ pick (eqb r 2) v c ∷ pick (eqb r 3) v d ∷ pick (eqb r 4) v e ∷ pick (eqb r 5) v f ∷ pick (eqb r 6) v g ∷ pick (eqb r 7) v h ∷ [] ≡ set words r v
+      pick (eqb r 0) v a ∷ pick (eqb r 1) v b ∷ pick (eqb r 2) v c ∷ pick (eqb r 3) v d ∷ pick (eqb r 4) v e ∷ pick (eqb r 5) v f ∷ pick (eqb r 6) v g ∷ pick (eqb r 7) v h ∷ []
+      ≡ set words r v
   set-by-tests zero v = refl
   set-by-tests (suc zero) v = refl
   set-by-tests (suc (suc zero)) v = refl

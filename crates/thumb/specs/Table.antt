@@ -110,7 +110,8 @@ block-miss ks s a n h p o l u r =
         by-test (λ _. find table h ≡ Unknown) (eqb q a)
         (λ t.
         let q≡ = eqb-true q a t in
-        ⊎-elim (λ x. absurd (not-listed ks a (rw q≡ at r) x)) (λ x. row-miss (a * s) (a * s + s) h x (rw q≡ at f) (rw q≡ at g)) (either (listed ks a) (clear (a * s) (a * s + s) table) (w .0)))
+        ⊎-elim (λ x. absurd (not-listed ks a (rw q≡ at r) x)) (λ x. row-miss (a * s) (a * s + s) h x (rw q≡ at f) (rw q≡ at g))
+        (either (listed ks a) (clear (a * s) (a * s + s) table) (w .0)))
         (λ t. let d = eqb-false q a t in at-block n (a + 1) q (w .1) (omega arith) (omega arith) f g r)
 
 -- the blocks of one group: the halfwords of a length of m blocks that share a quotient

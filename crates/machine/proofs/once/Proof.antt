@@ -20,12 +20,23 @@ once-spec =
     (λ c. search needs)
     (λ c. search needs)
     (λ c κs. search needs)
-    (λ c. unfold onceOf in let x = c .before .before .before .before .before .before .args in ap (λ (s : Stepped). after s (now (x .memory))) (c .fault .ensures) ∙ ap (λ (f : Fetched). fetched (now (x .code)) (now (x .memory)) (whole (x .core)) f .after) (sym (c .before .enum-told .given .1) ∙ c .before .before .before .fetch .ensures))
+    (λ c. unfold onceOf in let fetch = c .before .before .before .fetch in let x = c .before .before .before .before .before .before .args in
+    ap (λ (s : Stepped). after s (now (x .memory))) (c .fault .ensures)
+    ∙ ap (λ (f : Fetched). fetched (now (x .code)) (now (x .memory)) (whole (x .core)) f .after) (sym (c .before .enum-told .given .1) ∙ fetch .ensures))
     (λ c κs. search needs)
     (λ c. search needs)
     (λ c. search needs)
     (λ c κs. search needs)
-    (λ c. unfold onceOf in let x = c .before .before .before .before .before .before .before .before .before .before .args in ap (λ (s : Stepped). after s (now (x .memory))) (c .fault2 .ensures) ∙ ap (λ (d : Decoded). decoded (now (x .code)) (now (x .memory)) (whole (x .core)) d .after) (sym (c .before .enum-told2 .given .1) ∙ c .before .before .before .decode .ensures) ∙ ap (λ (f : Fetched). fetched (now (x .code)) (now (x .memory)) (whole (x .core)) f .after) (sym (c .before .before .before .before .before .h .given .1) ∙ c .before .before .before .before .before .before .before .fetch .ensures))
+    (λ c. unfold onceOf in let decode = c .before .before .before .decode in let h = c .before .before .before .before .before .h in
+    let fetch = c .before .before .before .before .before .before .before .fetch in let x = c .before .before .before .before .before .before .before .before .before .before .args in
+    ap (λ (s : Stepped). after s (now (x .memory))) (c .fault2 .ensures)
+    ∙ ap (λ (d : Decoded). decoded (now (x .code)) (now (x .memory)) (whole (x .core)) d .after) (sym (c .before .enum-told2 .given .1) ∙ decode .ensures)
+    ∙ ap (λ (f : Fetched). fetched (now (x .code)) (now (x .memory)) (whole (x .core)) f .after) (sym (h .given .1) ∙ fetch .ensures))
     (λ c κs. search needs)
     (λ c. search needs)
-    (λ c. unfold onceOf in let x = c .before .before .before .before .before .before .before .before .before .before .before .before .before .before .args in c .before .before .execute .ensures ∙ ap (λ (d : Decoded). decoded (now (x .code)) (now (x .memory)) (whole (x .core)) d .after) (sym (c .before .before .before .before .before .i .given .1) ∙ c .before .before .before .before .before .before .before .decode .ensures) ∙ ap (λ (f : Fetched). fetched (now (x .code)) (now (x .memory)) (whole (x .core)) f .after) (sym (c .before .before .before .before .before .before .before .before .before .h .given .1) ∙ c .before .before .before .before .before .before .before .before .before .before .before .fetch .ensures)))
+    (λ c. unfold onceOf in let i = c .before .before .before .before .before .i in let decode = c .before .before .before .before .before .before .before .decode in
+    let h = c .before .before .before .before .before .before .before .before .before .h in
+    let fetch = c .before .before .before .before .before .before .before .before .before .before .before .fetch in
+    let x = c .before .before .before .before .before .before .before .before .before .before .before .before .before .before .args in c .before .before .execute .ensures
+    ∙ ap (λ (d : Decoded). decoded (now (x .code)) (now (x .memory)) (whole (x .core)) d .after) (sym (i .given .1) ∙ decode .ensures)
+    ∙ ap (λ (f : Fetched). fetched (now (x .code)) (now (x .memory)) (whole (x .core)) f .after) (sym (h .given .1) ∙ fetch .ensures)))

@@ -20,12 +20,21 @@ load-spec =
     (λ c. search needs)
     (λ c. search needs)
     (λ c κs. search needs)
-    (λ c. unfold load in let x = c .before .before .before .before .before .before .args in ap (λ (s : Stepped). after s (now (x .memory))) (c .fault .ensures) ∙ ap (λ (a : Aligned). loadAt (now (x .code)) (now (x .memory)) (whole (x .self)) (x .d) a .after) (sym (c .before .enum-told .given .1) ∙ c .before .before .before .align .ensures))
+    (λ c. unfold load in let align = c .before .before .before .align in let x = c .before .before .before .before .before .before .args in
+    ap (λ (s : Stepped). after s (now (x .memory))) (c .fault .ensures)
+    ∙ ap (λ (a : Aligned). loadAt (now (x .code)) (now (x .memory)) (whole (x .self)) (x .d) a .after) (sym (c .before .enum-told .given .1) ∙ align .ensures))
     (λ c κs. search needs)
     (λ c. search needs)
     (λ c. search needs)
     (λ c κs. search needs)
-    (λ c. unfold load in let x = c .before .before .before .before .before .before .before .before .before .before .args in ap (λ (s : Stepped). after s (now (x .memory))) (c .fault2 .ensures ∙ ap (loadFound _ _) (sym (c .before .enum-told2 .given .1) ∙ c .before .before .before .word-at .ensures)) ∙ load-found _ _ _ _ _ ∙ ap (λ (a : Aligned). loadAt (now (x .code)) (now (x .memory)) (whole (x .self)) (x .d) a .after) (sym (c .before .before .before .before .before .at .given .1) ∙ c .before .before .before .before .before .before .before .align .ensures))
+    (λ c. unfold load in let word-at = c .before .before .before .word-at in let at′ = c .before .before .before .before .before .at in
+    let align = c .before .before .before .before .before .before .before .align in let x = c .before .before .before .before .before .before .before .before .before .before .args in
+    ap (λ (s : Stepped). after s (now (x .memory))) (c .fault2 .ensures ∙ ap (loadFound _ _) (sym (c .before .enum-told2 .given .1) ∙ word-at .ensures)) ∙ load-found _ _ _ _ _
+    ∙ ap (λ (a : Aligned). loadAt (now (x .code)) (now (x .memory)) (whole (x .self)) (x .d) a .after) (sym (at′ .given .1) ∙ align .ensures))
     (λ c κs. search needs)
     (λ c κs. search needs)
-    (λ c. unfold load in let x = c .before .before .before .before .before .before .before .before .before .before .before .before .args in ap (λ (s : Stepped). after s (now (x .memory))) (c .done .ensures ∙ ap done (c .before .takes .ensures) ∙ ap (loadFound _ _) (sym (c .before .before .before .v .given .1) ∙ c .before .before .before .before .before .word-at .ensures)) ∙ load-found _ _ _ _ _ ∙ ap (λ (a : Aligned). loadAt (now (x .code)) (now (x .memory)) (whole (x .self)) (x .d) a .after) (sym (c .before .before .before .before .before .before .before .at .given .1) ∙ c .before .before .before .before .before .before .before .before .before .align .ensures)))
+    (λ c. unfold load in let v = c .before .before .before .v in let word-at = c .before .before .before .before .before .word-at in
+    let at′ = c .before .before .before .before .before .before .before .at in let align = c .before .before .before .before .before .before .before .before .before .align in
+    let x = c .before .before .before .before .before .before .before .before .before .before .before .before .args in
+    ap (λ (s : Stepped). after s (now (x .memory))) (c .done .ensures ∙ ap done (c .before .takes .ensures) ∙ ap (loadFound _ _) (sym (v .given .1) ∙ word-at .ensures))
+    ∙ load-found _ _ _ _ _ ∙ ap (λ (a : Aligned). loadAt (now (x .code)) (now (x .memory)) (whole (x .self)) (x .d) a .after) (sym (at′ .given .1) ∙ align .ensures)))

@@ -24,6 +24,16 @@ takes-spec = tie.close (tie.spec
     (λ c. unfold takes in
     let x = c .before .before .before .before .before .before .before .before .before .args in
     let m = x .self in
-    rw (c .add .ensures, c .before .before .before .before .before .before .before .before .choose .ensures, c .before .before .before .before .before .before .before .choose2 .ensures, c .before .before .before .before .before .before .choose3 .ensures, c .before .before .before .before .before .choose4 .ensures, c .before .before .before .before .choose5 .ensures, c .before .before .before .choose6 .ensures, c .before .before .choose7 .ensures, c .before .choose8 .ensures)
+    rw (
+      c .add .ensures,
+      c .before .before .before .before .before .before .before .before .choose .ensures,
+      c .before .before .before .before .before .before .before .choose2 .ensures,
+      c .before .before .before .before .before .before .choose3 .ensures,
+      c .before .before .before .before .before .choose4 .ensures,
+      c .before .before .before .before .choose5 .ensures,
+      c .before .before .before .choose6 .ensures,
+      c .before .before .choose7 .ensures,
+      c .before .choose8 .ensures,
+    )
     (ap (λ (r : List ℕ). record { regs = r; sp = m .sp; lr = m .lr; pc = add (m .pc) 2; rs = m .rs })
     (set-by-tests (m .r0) (m .r1) (m .r2) (m .r3) (m .r4) (m .r5) (m .r6) (m .r7) (x .d) (x .v)))))
