@@ -4,11 +4,14 @@
 //!     measure translate FILE        translates a file once, for a tool that counts instructions
 //!     measure stack FILE...         the stack that a translation of each of the files takes
 //!     measure speed FILE...         how long the proved machine takes beside the plain interpreter
+//!     measure translation FILE...   how long a translation takes beside the second translator
 //!     measure bytes FILE...         tokens and image bytes of files
 
 use reference::generate::{program, render, Random};
 use std::time::Instant;
-use tests::{arm, needed_words, plain, proved, stack, Translation, CODE_BYTES, TABLE_WORDS};
+use tests::{
+    arm, needed_words, plain, proved, second, stack, Translation, Translator, CODE_BYTES, TABLE_WORDS,
+};
 
 fn main() {
     let arguments: Vec<String> = std::env::args().skip(1).collect();
@@ -25,8 +28,9 @@ fn main() {
             println!("| {} | {status} | {} |", name(file), stack::taken(&[source])[0]);
         }),
         ["speed", ref files @ ..] => speed(files),
+        ["translation", ref files @ ..] => translation(files),
         ["bytes", ref files @ ..] => files.iter().for_each(|file| bytes(file)),
-        _ => panic!("measure source|translate|stack|speed|bytes"),
+        _ => panic!("measure source|translate|stack|speed|translation|bytes"),
     }
 }
 
@@ -109,6 +113,28 @@ fn speed(files: &[&str]) {
         }
         let [proved, plain] = best;
         println!("| {} | {proved:.2} | {plain:.2} | {:.2} |", name(file), proved / plain);
+    }
+}
+
+/// How long a translation takes beside the second translator's: the best of many calls by turns.
+fn translation(files: &[&str]) {
+    println!("| source | proved translation, µs | second translation | times as long |");
+    println!("|---|---|---|---|");
+    for file in files {
+        let source = read(file);
+        let mut best = [f64::MAX; 2];
+        for _ in 0..200 {
+            for (translate, best) in
+                [proved::translate as Translator, second::translate].into_iter().zip(&mut best)
+            {
+                let (mut table, mut code) = (vec![0; TABLE_WORDS], vec![0; CODE_BYTES]);
+                let begun = Instant::now();
+                translate(&source, &mut table, &mut code);
+                *best = best.min(begun.elapsed().as_secs_f64() * 1e6);
+            }
+        }
+        let [proved, second] = best;
+        println!("| {} | {proved:.1} | {second:.1} | {:.2} |", name(file), proved / second);
     }
 }
 

@@ -2,8 +2,8 @@
 
 use crate::{by_status, print};
 use tests::arm::{self, assemble, disassemble, pattern, Instr, Layout, Op, State, OPS};
-use tests::proved;
 use tests::random::Random;
+use tests::{plain, proved};
 
 const EDGES: [u8; 22] =
     [0, 1, 2, 6, 7, 8, 9, 15, 16, 30, 31, 32, 33, 63, 64, 126, 127, 128, 129, 200, 254, 255];
@@ -249,6 +249,10 @@ fn one_run(seen: &mut Seen, s: &State, code: &[u8], memory: &[u32], limit: u64) 
     // a run that ends before its limit ends alike under any larger one
     let asked = if want.0 != 0 && want.2 < limit { u64::MAX } else { limit };
     let got = proved::run(&mut theirs, code, &mut their_memory, asked);
+    // the yardstick of the benchmarks, too
+    let (mut plain, mut plain_memory) = (s.clone(), memory.to_vec());
+    let measured = plain::run(&mut plain, code, &mut plain_memory, limit);
+    same("plain run", (s, limit), (measured, plain, plain_memory), (want, mine.clone(), my_memory.clone()));
     same("run", (s, limit), (got, theirs, their_memory), (want, mine, my_memory));
     seen.runs[want.0 as usize] += 1;
     seen.run_instructions += want.2;

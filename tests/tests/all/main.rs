@@ -12,6 +12,7 @@ mod header;
 mod machine;
 mod programs;
 mod runs;
+mod speed;
 mod stack;
 
 fn repository() -> PathBuf {
