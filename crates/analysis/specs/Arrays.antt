@@ -10,6 +10,7 @@ use lib.Seq.{getD-take}
 use borrow.Author.Tests.{leb-true, leb-false, ltb-true, ltb-false, lt-ltb, le-ltb}
 use Rattle.word.specs.Choice.{pick}
 use Rattle.word.specs.ChoiceLaws.{by-test}
+use Rattle.token.specs.Refusals as refusal
 use Rattle.token.specs.Tokens.{Entry, read, refused, scan, outcome, entries}
 use Rattle.grammar.specs.Grammar.{Token}
 use Rattle.grammar.specs.Tokens.{token-of, tokens, unread}
@@ -19,7 +20,7 @@ use Rattle.name_table.specs.View.{text-at, place-at}
 -- a source that is read is short
 pub short-source : (s : List ℕ) (ts : List Entry) → outcome s ≡ read ts → length s ≤ 16384
 unfolding outcome
-short-source s ts = by-test (λ (b : Bool). pick b (scan s 0 0 0) (refused 1 0) ≡ read ts → length s ≤ 16384) (leb (length s) 16384)
+short-source s ts = by-test (λ (b : Bool). pick b (scan s 0 0 0) (refused refusal.long-source 0) ≡ read ts → length s ≤ 16384) (leb (length s) 16384)
     (λ t e. leb-true (length s) 16384 t) (λ f e. let z : _≡_ {A = ℕ} 0 1 = cc in absurd (omega arith))
 
 module _ (ks ps vs : List ℕ) where

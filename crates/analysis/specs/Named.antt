@@ -11,6 +11,7 @@ use Rattle.grammar.specs.Tokens.{unread}
 use Rattle.grammar.specs.Rows as raw
 use Rattle.grammar.specs.RowLaws.{length-process, sets-rows}
 use Rattle.grammar.specs.Depth as grammar-depth
+use Rattle.program.specs.Layout.{row-words}
 use Rattle.program.specs.Core.{core-process}
 use Rattle.program.specs.Depth.{deepest}
 use Rattle.program.specs.Rows.{declared-rows, rows-process, count-process, table-of, row-count}
@@ -38,17 +39,18 @@ use Rattle.names.specs.Specified.{count-declared, words-declared}
 use Rattle.analysis.specs.Analysed.{Found}
 
 -- what is written is held
-pub holds-set : (t xs : List ℕ) (n : ℕ) → 4 * n + length xs ≤ length t → Holds (sets t (4 * n) xs) n xs
+pub holds-set : (t xs : List ℕ) (n : ℕ) → row-words * n + length xs ≤ length t → Holds (sets t (row-words * n) xs) n xs
 holds-set t xs n l = record {
   at = λ k h.
-      let e = length-take-le (4 * n) t (omega arith) in
-      let z : 4 * n + k ≡ length (take (4 * n) t) + k = omega (arith, e) in
-      rw (sets-eq xs t (4 * n) l, z)
-      (List·getD-append (take (4 * n) t ++ xs) (drop (4 * n + length xs) t) 0 (length (take (4 * n) t) + k) (rw (length-append (take (4 * n) t) xs) (omega arith)) ∙ getD-append-add (take (4 * n) t) xs k 0);
+      let e = length-take-le (row-words * n) t (omega arith) in
+      let z : row-words * n + k ≡ length (take (row-words * n) t) + k = omega (arith, e) in
+      rw (sets-eq xs t (row-words * n) l, z)
+      (List·getD-append (take (row-words * n) t ++ xs) (drop (row-words * n + length xs) t) 0 (length (take (row-words * n) t) + k)
+      (rw (length-append (take (row-words * n) t) xs) (omega arith)) ∙ getD-append-add (take (row-words * n) t) xs k 0);
 }
 
-holds-after : (t xs ds : List ℕ) (n : ℕ) → length ds ≤ 4 * n → Holds t n xs → Holds (sets t 0 ds) n xs
-holds-after t xs ds n l h = record { at = λ k b. getD-sets-past ds t 0 (4 * n + k) (omega arith) ∙ h .at k b }
+holds-after : (t xs ds : List ℕ) (n : ℕ) → length ds ≤ row-words * n → Holds t n xs → Holds (sets t 0 ds) n xs
+holds-after t xs ds n l h = record { at = λ k b. getD-sets-past ds t 0 (row-words * n + k) (omega arith) ∙ h .at k b }
 
 module _ (source kinds places values : List ℕ) where
   abbrev text : ℕ → List ℕ
@@ -100,7 +102,7 @@ module _ (source kinds places values : List ℕ) where
       quiet : complaints text place p ≡ of-process text place b S
       quiet = ap (λ (cs : List Complaint). cs ++ of-process text place b S) (filled .quiet)
 
-      all-walked : walked t₂ (verdict f) ≡ walked (sets t₁ (4 * raw.declared-rows ss) (resolve-rows text S xs)) (least (row-complaints text place S xs))
+      all-walked : walked t₂ (verdict f) ≡ walked (sets t₁ (row-words * raw.declared-rows ss) (resolve-rows text S xs)) (least (row-complaints text place S xs))
       all-walked =
           let n : rows - made ≡ raw.count-process b = omega (arith, ready .rows-are, made-is) in
           let h : Holds t₁ (raw.declared-rows ss) xs = rw (filled .table) (holds-after t xs D (raw.declared-rows ss) (omega (arith, filled .sized, made-is)) (ready .table)) in
@@ -131,9 +133,9 @@ module _ (source kinds places values : List ℕ) where
           let r : resolve-rows text S xs ≡ rows-process (core-process (resolve.process text b S)) (length (declarations text ss empty-scope)) =
           rows-P text place S b m (ready .proper) here ∙ ap (rows-process (core-process (resolve.process text b S))) (sym c)
           in
-          let s : t₂ ≡ sets t (4 * 0) (D ++ rows-process (core-process (resolve.process text b S)) (length (declarations text ss empty-scope))) =
-          ap (λ (w : Walked). w .table) all-walked ∙ ap (λ (l : List ℕ). sets l (4 * m) (resolve-rows text S xs)) (filled .table)
-          ∙ sets-rows D t 0 m m (resolve-rows text S xs) (filled .sized ∙ ap (λ (n : ℕ). 4 * n) made-is) (omega arith) ∙ ap (λ (l : List ℕ). sets t (4 * 0) (D ++ l)) r
+          let s : t₂ ≡ sets t (row-words * 0) (D ++ rows-process (core-process (resolve.process text b S)) (length (declarations text ss empty-scope))) =
+          ap (λ (w : Walked). w .table) all-walked ∙ ap (λ (l : List ℕ). sets l (row-words * m) (resolve-rows text S xs)) (filled .table)
+          ∙ sets-rows D t 0 m m (resolve-rows text S xs) (filled .sized ∙ ap (λ (n : ℕ). row-words * n) made-is) (omega arith) ∙ ap (λ (l : List ℕ). sets t (row-words * 0) (D ++ l)) r
           in
           record {
             tree = resolve.resolve text p;
@@ -142,17 +144,28 @@ module _ (source kinds places values : List ℕ) where
             words-are = sym (ap (λ (s : Scope). s .words) (filled .scope)) ∙ words-declared text ss empty-scope ∙ omega arith;
             depth-is = ready .depth-is ∙ same-deepest text place p none;
             table = rw s (holds-set t (D ++ rows-process (core-process (resolve.process text b S)) (length (declarations text ss empty-scope))) 0
-                (simp length-append (omega (arith, ready .room, ready .few, ready .rows-are, filled .sized, made-is, length-rows-process (core-process (resolve.process text b S)) (length (declarations text ss empty-scope)), k))));
+                (simp length-append (omega (
+                  arith,
+                  ready .room,
+                  ready .few,
+                  ready .rows-are,
+                  filled .sized,
+                  made-is,
+                  length-rows-process (core-process (resolve.process text b S)) (length (declarations text ss empty-scope)),
+                  k,
+                ))));
           }
 
   -- what `bind` ensures of its answer
   abbrev pub Bound : ℕ → List ℕ → List ℕ → Table → Progress → Type 0
   Bound start t t₁ names r =
-      (ds : List Specification) (b : Process) → unread kinds values 0 ≡ text-specifications ds (text-process b []) → start ≡ length kinds - length (text-process b []) → Fills source kinds places values ds t t₁ names r
+      (ds : List Specification) (b : Process) → unread kinds values 0 ≡ text-specifications ds (text-process b []) → start ≡ length kinds - length (text-process b [])
+      → Fills source kinds places values ds t t₁ names r
 
   module _ (p : Program) (start rows depth : ℕ) (t : List ℕ) (ready : Ready p start rows depth t) where
     pub names-refused : (n q : ℕ)
-        → ((ds : List Specification) (b : Process) → unread kinds values 0 ≡ text-specifications ds (text-process b []) → start ≡ length kinds - length (text-process b []) → first (of-specifications text place ds empty-scope) ≡ refused (record { number = n; place = q }))
+        → ((ds : List Specification) (b : Process) → unread kinds values 0 ≡ text-specifications ds (text-process b []) → start ≡ length kinds - length (text-process b [])
+        → first (of-specifications text place ds empty-scope) ≡ refused (record { number = n; place = q }))
         → named-as p ≡ front.refused n q
     names-refused n q h = by p ready
       where

@@ -8,6 +8,7 @@ use lib.ListN.{length, getD}
 use lib.Seq.{sets, length-sets}
 use borrow.Author.Tests.{lt-ltb, le-ltb}
 use Rattle.word.specs.Choice.{pick}
+use Rattle.token.specs.Refusals as refusal
 use Rattle.token.specs.Tokens as token
 use Rattle.token.specs.Tokens.{Entry, entries}
 use Rattle.grammar.specs.Grammar.{Program, program}
@@ -34,6 +35,7 @@ use Rattle.recognizer.specs.Recognized.{Says}
 use Rattle.name_table.specs.View.{place-at}
 use Rattle.analysis.specs.Arrays.{symbols-all, unread-all, length-entries, place-all, text-all}
 use Rattle.grammar.specs.FewRows.{few-rows}
+use Rattle.program.specs.Layout.{row-words}
 use Rattle.analysis.specs.Named.{holds-set, Ready, named-as}
 
 module _ (source ks ps vs : List ℕ) (lp : length ps ≡ length ks) (lv : length vs ≡ length ks) where
@@ -51,22 +53,22 @@ module _ (source ks ps vs : List ℕ) (lp : length ps ≡ length ks) (lv : lengt
   as-read = ap (λ (w : List Rattle.grammar.specs.Grammar.Token). parsed source ts (reads w)) (symbols-all ks ps vs (length ks) refl lp lv)
 
   -- 6 at token i
-  pub refused-at : (i place : ℕ) → answer (length ks) R ≡ read.Refused i → place ≡ pick (ltb i (length ps)) (getD ps i 0) (length source) → come ≡ front.refused 6 place
+  pub refused-at : (i place : ℕ) → answer (length ks) R ≡ read.Refused i → place ≡ pick (ltb i (length ps)) (getD ps i 0) (length source) → come ≡ front.refused refusal.ungrammatical place
   refused-at i place e h = as-read ∙ by R e
     where
-      by : (r : Reading) → answer (length ks) r ≡ read.Refused i → parsed source ts r ≡ front.refused 6 place
+      by : (r : Reading) → answer (length ks) r ≡ read.Refused i → parsed source ts r ≡ front.refused refusal.ungrammatical place
       by (automaton.accepted p) e = let z : _≡_ {A = ℕ} 0 1 = cc in absurd (omega arith)
       by (automaton.refused u) e =
           let z : length ks - length u ≡ i = cc in
           ap (front.refused 6) (unread-all ks ps vs (length ks) refl lp lv (length u) (length source) ∙ ap (λ (k : ℕ). pick (ltb k (length ps)) (getD ps k 0) (length source)) z ∙ sym h)
 
   -- the recognizer's answers
-  pub recognized-bad : (i place : ℕ) → Says (length ks) R (recognizer.Bad i) → place ≡ pick (ltb i (length ps)) (getD ps i 0) (length source) → come ≡ front.refused 6 place
+  pub recognized-bad : (i place : ℕ) → Says (length ks) R (recognizer.Bad i) → place ≡ pick (ltb i (length ps)) (getD ps i 0) (length source) → come ≡ front.refused refusal.ungrammatical place
   recognized-bad i place h e =
       let z : length ks - length (h .0) ≡ i = omega (arith, h .2) in
       refused-at i place (ap (answer (length ks)) (h .1) ∙ ap read.Refused z) e
 
-  pub deep-program : (p : Program) → R ≡ automaton.accepted p → grammar-depth.depth-limit < max (grammar-depth.depth p) (grammar-depth.deepest p) → come ≡ front.refused 7 0
+  pub deep-program : (p : Program) → R ≡ automaton.accepted p → grammar-depth.depth-limit < max (grammar-depth.depth p) (grammar-depth.deepest p) → come ≡ front.refused refusal.deep-program 0
   unfolding named
   deep-program p q h = as-read ∙ ap (parsed source ts) q ∙ rw (lt-ltb grammar-depth.depth-limit (max (grammar-depth.depth p) (grammar-depth.deepest p)) h)
 
@@ -78,7 +80,7 @@ module _ (source ks ps vs : List ℕ) (lp : length ps ≡ length ks) (lv : lengt
     pub rows-are : rows ≡ raw.row-count tree
     pub depth-is : depth ≡ grammar-depth.depth tree
     pub deepest-is : deepest ≡ grammar-depth.deepest tree
-    pub table : t′ ≡ sets t (4 * raw.first-row tree) (raw.rows tree)
+    pub table : t′ ≡ sets t (row-words * raw.first-row tree) (raw.rows tree)
 
   pub came : (start rows depth deepest : ℕ) (t t′ : List ℕ) → answer (length ks) R ≡ read.Program start rows depth deepest → Written R t t′ → Came start rows depth deepest t t′
   came start rows depth deepest t t′ e h = by R refl e h
@@ -95,7 +97,7 @@ module _ (source ks ps vs : List ℕ) (lp : length ps ≡ length ks) (lv : lengt
     as-named = as-read ∙ ap (parsed source ts) (c .reading)
 
     -- 7
-    pub too-deep : grammar-depth.depth-limit < max depth deepest → come ≡ front.refused 7 0
+    pub too-deep : grammar-depth.depth-limit < max depth deepest → come ≡ front.refused refusal.deep-program 0
     too-deep h = deep-program p (c .reading) (rw (← (c .depth-is), ← (c .deepest-is)) h)
 
     pub small : length ks ≤ 1024 → (start ≤ 1024) × (rows ≤ 1024)
@@ -129,9 +131,9 @@ module _ (source ks ps vs : List ℕ) (lp : length ps ≡ length ks) (lv : lengt
           rows-are = c .rows-are;
           few = few .1;
           depth-is = c .deepest-is;
-          room = ap length (c .table) ∙ length-sets t (4 * raw.first-row p) (raw.rows p) ∙ l;
+          room = ap length (c .table) ∙ length-sets t (row-words * raw.first-row p) (raw.rows p) ∙ l;
           table = subst (λ (w : List ℕ). Holds w (raw.first-row p) (raw.rows p)) (sym (c .table)) (holds-set t (raw.rows p) (raw.first-row p) (fits p (omega (arith, c .rows-are, few .1))));
         }
       where
-        fits : (p : Program) → raw.row-count p ≤ 1024 → 4 * raw.first-row p + length (raw.rows p) ≤ length t
+        fits : (p : Program) → raw.row-count p ≤ 1024 → row-words * raw.first-row p + length (raw.rows p) ≤ length t
         fits (program ss b) h = omega (arith, length-process b (raw.declared-rows ss), l)

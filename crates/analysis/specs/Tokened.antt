@@ -1,13 +1,15 @@
 -- What the token arrays say of the source: 1 to 5, 13, 14, or what its tokens come to. Laws; assumes nothing.
 use mathlib.Core.Path.{_≡_, ap, subst, _∙_}
 use mathlib.Core.List.{List}
-use Prim.Native.Nat.{ℕ, _+_, _*_, _≤_, _<_}
+use Prim.Native.Nat.{ℕ, _≤_, _<_}
 use lib.ListN.{length}
 use borrow.Author.Tests.{lt-ltb, le-ltb}
+use Rattle.token.specs.Refusals as refusal
 use Rattle.token.specs.Tokens as token
 use Rattle.token.specs.Tokens.{Entry, outcome, entries}
 use Rattle.token.specs.SourceLaws as source-laws
 use Rattle.grammar.specs.Automaton.{reads}
+use Rattle.program.specs.Layout.{table-room, code-room}
 use Rattle.front.specs.Symbols.{symbols}
 use Rattle.front.specs.Front.{refused, parsed, tokened, front}
 use Rattle.analysis.specs.Arrays.{length-entries}
@@ -25,14 +27,14 @@ module _ (source : List ℕ) (table code : ℕ) where
     abbrev ts : List Entry
     ts = entries ks ps vs 0 n
 
-    pub short-table : table < 4 * n → front source table code ≡ refused 13 0
+    pub short-table : table < table-room n → front source table code ≡ refused refusal.short-table 0
     unfolding front
-    short-table l = ap (tokened source table code) h ∙ rw (length-entries ks ps vs n 0, lt-ltb table (4 * n) l)
+    short-table l = ap (tokened source table code) h ∙ rw (length-entries ks ps vs n 0, lt-ltb table (table-room n) l)
 
-    pub short-code : 4 * n ≤ table → code < 48 * n + 256 → front source table code ≡ refused 14 0
+    pub short-code : table-room n ≤ table → code < code-room n → front source table code ≡ refused refusal.short-code 0
     unfolding front
-    short-code g l = ap (tokened source table code) h ∙ rw (length-entries ks ps vs n 0, le-ltb table (4 * n) g, lt-ltb code (48 * n + 256) l)
+    short-code g l = ap (tokened source table code) h ∙ rw (length-entries ks ps vs n 0, le-ltb table (table-room n) g, lt-ltb code (code-room n) l)
 
-    pub with-room : 4 * n ≤ table → 48 * n + 256 ≤ code → front source table code ≡ parsed source ts (reads (symbols ts 0))
+    pub with-room : table-room n ≤ table → code-room n ≤ code → front source table code ≡ parsed source ts (reads (symbols ts 0))
     unfolding front
-    with-room g l = ap (tokened source table code) h ∙ rw (length-entries ks ps vs n 0, le-ltb table (4 * n) g, le-ltb code (48 * n + 256) l)
+    with-room g l = ap (tokened source table code) h ∙ rw (length-entries ks ps vs n 0, le-ltb table (table-room n) g, le-ltb code (code-room n) l)

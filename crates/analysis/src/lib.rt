@@ -2,12 +2,14 @@
 use binding::Progress;
 use binding::bind;
 use name_table::number;
+use program::row;
 use reader::Answer;
 use reader::program;
 use recognizer::Recognized;
 use recognizer::recognize;
 use resolution::resolve;
 use token::Scanned;
+use token::refusal;
 use token::tokens;
 ghost use mathlib.Core.Path.{_≡_};
 ghost use Prim.Native.Nat.{_≤_};
@@ -22,6 +24,14 @@ ghost use Rattle.grammar.specs.Nesting.{Bounded};
 ghost use Rattle.front.specs.Front.{front};
 ghost use Rattle.analysis.specs.Analysed.{Analysed, Parses};
 ghost use Rattle.analysis.specs.Named.{Ready, «named-as»};
+
+// Refusal 7: process depth and N.
+const DEPTH_LIMIT: usize = 32;
+
+// Refusal 14: the bytes of code that a source needs, for each token and once.
+const CODE_PER_TOKEN: usize = 48;
+
+const CODE_MORE: usize = 256;
 
 // A refusal's number and place, or the number of tokens, of rows, of data words and N.
 pub enum Analysis {
@@ -41,14 +51,14 @@ fn names(
     depth: usize,
 ) -> Analysis
     requires { ⌜ (start ≤ 1024) × (rows ≤ 1024) ⌝ }
-    ensures { λ r. ⌜ ((p : grammar.Program) → Ready (now (source .entry)) (now (kinds .entry)) (now (places .entry)) (now (values .entry)) p start rows depth (now (table .entry)) → Analysed («named-as» (now (source .entry)) (now (kinds .entry)) (now (places .entry)) (now (values .entry)) p) (now (table .exit)) r) ⌝ }
+    ensures { λ r. ⌜ ((p : grammar.Program) → Ready (now (source .entry)) (now (kinds .entry)) (now (places .entry)) (now (values .entry)) p start rows depth (now (table .entry))
+        → Analysed («named-as» (now (source .entry)) (now (kinds .entry)) (now (places .entry)) (now (values .entry)) p) (now (table .exit)) r) ⌝ }
 {
     let mut name_places: [u32; 256] = [0; 256];
     let mut name_lengths: [u32; 256] = [0; 256];
     let mut name_rows: [u32; 256] = [0; 256];
     let mut sorts: [u32; 256] = [0; 256];
     let mut words: [u32; 256] = [0; 256];
-    let mut sizes: [u32; 256] = [0; 256];
     let b = bind(
         source,
         kinds,
@@ -59,7 +69,6 @@ fn names(
         &mut name_rows,
         &mut sorts,
         &mut words,
-        &mut sizes,
         table,
         start,
     );
@@ -75,7 +84,6 @@ fn names(
                 &name_rows,
                 &sorts,
                 &words,
-                &sizes,
                 count,
                 table,
                 made,
@@ -109,18 +117,26 @@ fn read(
     values: &[u32],
     table: &mut [u32; 4096],
 ) -> Analysis
-    requires { ⌜ (length (now source) ≤ 16384) × ((length (now kinds) ≤ 1024) × ((length (now places) ≡ length (now kinds)) × ((length (now values) ≡ length (now kinds)) × ((length (now table) ≡ 4096) × Bounded (reads (unread (now kinds) (now values) 0)))))) ⌝ }
+    requires { ⌜ (length (now source) ≤ 16384)
+        × ((length (now kinds) ≤ 1024)
+        × ((length (now places) ≡ length (now kinds))
+        × ((length (now values) ≡ length (now kinds)) × ((length (now table) ≡ 4096) × Bounded (reads (unread (now kinds) (now values) 0)))))) ⌝ }
     ensures { λ r. ⌜ Parses (now (source .entry)) (scanned.entries (now (kinds .entry)) (now (places .entry)) (now (values .entry)) 0 (length (now (kinds .entry)))) (now (table .exit)) r ⌝ }
 {
     let a = program(kinds, values, table);
     match a {
-        Answer::Refused(i) => { Analysis::Refused(6, place_of(places, i, source.len() as u32)) }
+        Answer::Refused(i) => {
+            Analysis::Refused(
+                refusal::UNGRAMMATICAL,
+                place_of(places, i, source.len() as u32),
+            )
+        }
         Answer::Program(start, rows, depth, deepest) => {
-            if 32 < depth {
-                return Analysis::Refused(7, 0);
+            if DEPTH_LIMIT < depth {
+                return Analysis::Refused(refusal::DEEP_PROGRAM, 0);
             }
-            if 32 < deepest {
-                return Analysis::Refused(7, 0);
+            if DEPTH_LIMIT < deepest {
+                return Analysis::Refused(refusal::DEEP_PROGRAM, 0);
             }
             names(source, kinds, places, values, table, start, rows, deepest)
         }
@@ -135,12 +151,16 @@ fn parse(
     values: &[u32],
     table: &mut [u32; 4096],
 ) -> Analysis
-    requires { ⌜ (length (now source) ≤ 16384) × ((length (now kinds) ≤ 1024) × ((length (now places) ≡ length (now kinds)) × ((length (now values) ≡ length (now kinds)) × (length (now table) ≡ 4096)))) ⌝ }
+    requires { ⌜ (length (now source) ≤ 16384)
+        × ((length (now kinds) ≤ 1024) × ((length (now places) ≡ length (now kinds)) × ((length (now values) ≡ length (now kinds)) × (length (now table) ≡ 4096)))) ⌝ }
     ensures { λ r. ⌜ Parses (now (source .entry)) (scanned.entries (now (kinds .entry)) (now (places .entry)) (now (values .entry)) 0 (length (now (kinds .entry)))) (now (table .exit)) r ⌝ }
 {
     match recognize(kinds, table) {
-        Recognized::Bad(i) => Analysis::Refused(6, place_of(places, i, source.len() as u32)),
-        Recognized::Deep => Analysis::Refused(7, 0),
+        Recognized::Bad(i) => Analysis::Refused(
+            refusal::UNGRAMMATICAL,
+            place_of(places, i, source.len() as u32),
+        ),
+        Recognized::Deep => Analysis::Refused(refusal::DEEP_PROGRAM, 0),
         Recognized::Program => read(source, kinds, places, values, table),
     }
 }
@@ -194,11 +214,11 @@ pub fn analyse(
     match s {
         Scanned::Refused(number, place) => Analysis::Refused(number, place as u32),
         Scanned::Read(n) => {
-            if table_words < 4 * n {
-                return Analysis::Refused(13, 0);
+            if table_words < row::WORDS * n {
+                return Analysis::Refused(refusal::SHORT_TABLE, 0);
             }
-            if code_bytes < 48 * n + 256 {
-                return Analysis::Refused(14, 0);
+            if code_bytes < CODE_PER_TOKEN * n + CODE_MORE {
+                return Analysis::Refused(refusal::SHORT_CODE, 0);
             }
             parse_arrays(source, &kinds, &places, &values, n, table)
         }

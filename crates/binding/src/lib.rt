@@ -10,16 +10,17 @@ use judging::judge;
 use judging::width;
 use name_table::add;
 use name_table::number;
+use name_table::sort;
 use name_table::stands_for;
 use spelling::kind;
 ghost use mathlib.Core.Path.{_≡_};
 ghost use mathlib.Core.List.{List, []};
 ghost use Prim.Native.Nat.{ℕ, _+_, _-_, _<_, _≤_};
-ghost use lib.ListN.{length};
+ghost use lib.ListN.{length, set};
 ghost use Rattle.name_table.specs.View.{arrays, «text-at»};
 ghost use Rattle.grammar.specs.Grammar.{Specification, Process, «text-process», «text-specifications»};
 ghost use Rattle.grammar.specs.Tokens.{unread};
-ghost use Rattle.binding.specs.Going.{«scope-of», Puts, Enters, Fills};
+ghost use Rattle.binding.specs.Going.{«scope-of», Puts, EntersAny, Fills};
 ghost use Rattle.judging.specs.Judge.{«constant-read», «constant-at»};
 
 // The refusal's number and place; or how many names, rows and words are declared.
@@ -34,16 +35,19 @@ fn constant_at(
     kinds: &[u8],
     places: &[u32],
     values: &[u32],
-    sources: &[u32],
-    lengths: &[u32],
-    rows: &[u32],
+    name_places: &[u32],
+    name_lengths: &[u32],
+    name_rows: &[u32],
     sorts: &[u32],
     words: &[u32],
-    sizes: &[u32],
     names: usize,
     j: usize,
 ) -> Constant
-    ensures { λ r. ⌜ ((made used : ℕ) → r ≡ «constant-read» («text-at» (now (source .entry)) (now (places .entry)) (now (values .entry))) («scope-of» (now (source .entry)) (arrays (now (sources .entry)) (now (lengths .entry)) (now (rows .entry)) (now (sorts .entry)) (now (words .entry)) (now (sizes .entry))) names made used) («constant-at» (now (kinds .entry)) (now (values .entry)) j)) ⌝ }
+    ensures { λ r. ⌜ ((sizes : List ℕ) (made used : ℕ)
+        → r ≡ «constant-read» («text-at» (now (source .entry)) (now (places .entry)) (now (values .entry)))
+        («scope-of» (now (source .entry)) (arrays (now («name_places» .entry)) (now («name_lengths» .entry)) (now («name_rows» .entry)) (now (sorts .entry)) (now (words .entry)) sizes)
+        names made used)
+        («constant-at» (now (kinds .entry)) (now (values .entry)) j)) ⌝ }
 {
     if kind_at(kinds, j) == kind::NUMBER {
         return Constant {
@@ -53,12 +57,11 @@ fn constant_at(
     }
     let m = stands_for(
         source,
-        sources,
-        lengths,
-        rows,
+        name_places,
+        name_lengths,
+        name_rows,
         sorts,
         words,
-        sizes,
         names,
         number(places, j),
         number(values, j),
@@ -68,12 +71,11 @@ fn constant_at(
 
 // A name of n bytes at p and its item into the name table, and the item's row, if it has one, into the syntax table.
 fn enter(
-    sources: &mut [u32; 256],
-    lengths: &mut [u32; 256],
-    rows: &mut [u32; 256],
+    name_places: &mut [u32; 256],
+    name_lengths: &mut [u32; 256],
+    name_rows: &mut [u32; 256],
     sorts: &mut [u32; 256],
     words: &mut [u32; 256],
-    sizes: &mut [u32; 256],
     table: &mut [u32; 4096],
     e: Item,
     p: u32,
@@ -83,30 +85,30 @@ fn enter(
     used: u32,
 ) -> Progress
     requires { ⌜ (names ≤ 255) × ((made ≤ names) × ((used + e .words ≤ 8192) × (e .rows ≤ 1))) ⌝ }
-    ensures { λ r. ⌜ Puts e p n names made used (arrays (now (sources .entry)) (now (lengths .entry)) (now (rows .entry)) (now (sorts .entry)) (now (words .entry)) (now (sizes .entry))) (arrays (now (sources .exit)) (now (lengths .exit)) (now (rows .exit)) (now (sorts .exit)) (now (words .exit)) (now (sizes .exit))) (now (table .entry)) (now (table .exit)) r ⌝ }
+    ensures { λ r. ⌜ ((sizes : List ℕ) → names < length sizes
+        → Puts e p n names made used (arrays (now («name_places» .entry)) (now («name_lengths» .entry)) (now («name_rows» .entry)) (now (sorts .entry)) (now (words .entry)) sizes)
+        (arrays (now («name_places» .exit)) (now («name_lengths» .exit)) (now («name_rows» .exit)) (now (sorts .exit)) (now (words .exit)) (set sizes names (e .size)))
+        (now (table .entry)) (now (table .exit)) r) ⌝ }
 {
     let sort = e.sort;
     let word = e.word;
-    let size = e.size;
     add(
-        sources,
-        lengths,
-        rows,
+        name_places,
+        name_lengths,
+        name_rows,
         sorts,
         words,
-        sizes,
         names,
         p,
         n,
         e.row,
         sort,
         word,
-        size,
     );
-    if sort == 3 {
+    if sort == sort::VAL {
         return Progress::Declared(names + 1, made + e.rows, used + e.words);
     }
-    put(table, made, sort, word, size, 0);
+    put(table, made, sort, word, e.size, 0);
     Progress::Declared(names + 1, made + e.rows, used + e.words)
 }
 
@@ -116,12 +118,11 @@ fn declare(
     kinds: &[u8],
     places: &[u32],
     values: &[u32],
-    sources: &mut [u32; 256],
-    lengths: &mut [u32; 256],
-    rows: &mut [u32; 256],
+    name_places: &mut [u32; 256],
+    name_lengths: &mut [u32; 256],
+    name_rows: &mut [u32; 256],
     sorts: &mut [u32; 256],
     words: &mut [u32; 256],
-    sizes: &mut [u32; 256],
     table: &mut [u32; 4096],
     i: usize,
     names: usize,
@@ -129,19 +130,21 @@ fn declare(
     used: u32,
 ) -> Progress
     requires { ⌜ (i ≤ 1024) × ((made ≤ names) × ((names ≤ 256) × (used ≤ 8192))) ⌝ }
-    ensures { λ r. ⌜ Enters (now (source .entry)) (now (kinds .entry)) (now (places .entry)) (now (values .entry)) («scope-of» (now (source .entry)) (arrays (now (sources .entry)) (now (lengths .entry)) (now (rows .entry)) (now (sorts .entry)) (now (words .entry)) (now (sizes .entry))) names made used) i (arrays (now (sources .entry)) (now (lengths .entry)) (now (rows .entry)) (now (sorts .entry)) (now (words .entry)) (now (sizes .entry))) (arrays (now (sources .exit)) (now (lengths .exit)) (now (rows .exit)) (now (sorts .exit)) (now (words .exit)) (now (sizes .exit))) (now (table .entry)) (now (table .exit)) r ⌝ }
+    ensures { λ r. ⌜ EntersAny (now (source .entry)) (now (kinds .entry)) (now (places .entry)) (now (values .entry)) i names made used
+        (arrays (now («name_places» .entry)) (now («name_lengths» .entry)) (now («name_rows» .entry)) (now (sorts .entry)) (now (words .entry)))
+        (arrays (now («name_places» .exit)) (now («name_lengths» .exit)) (now («name_rows» .exit)) (now (sorts .exit)) (now (words .exit)))
+        (now (table .entry)) (now (table .exit)) r ⌝ }
 {
     let k = kind_at(kinds, i);
     let p = number(places, i + 1);
     let n = number(values, i + 1);
     let m = stands_for(
         source,
-        sources,
-        lengths,
-        rows,
+        name_places,
+        name_lengths,
+        name_rows,
         sorts,
         words,
-        sizes,
         names,
         p,
         n,
@@ -151,12 +154,11 @@ fn declare(
         kinds,
         places,
         values,
-        sources,
-        lengths,
-        rows,
+        name_places,
+        name_lengths,
+        name_rows,
         sorts,
         words,
-        sizes,
         names,
         i + 3,
     );
@@ -165,12 +167,11 @@ fn declare(
     match v {
         Verdict::Refused(number, place) => Progress::Refused(number, place),
         Verdict::Fine => enter(
-            sources,
-            lengths,
-            rows,
+            name_places,
+            name_lengths,
+            name_rows,
             sorts,
             words,
-            sizes,
             table,
             item_of(k, word, made as u32, used),
             p,
@@ -189,17 +190,20 @@ pub fn bind(
     kinds: &[u8],
     places: &[u32],
     values: &[u32],
-    sources: &mut [u32; 256],
-    lengths: &mut [u32; 256],
-    rows: &mut [u32; 256],
+    name_places: &mut [u32; 256],
+    name_lengths: &mut [u32; 256],
+    name_rows: &mut [u32; 256],
     sorts: &mut [u32; 256],
     words: &mut [u32; 256],
-    sizes: &mut [u32; 256],
     table: &mut [u32; 4096],
     start: usize,
 ) -> Progress
     requires { ⌜ start ≤ 1024 ⌝ }
-    ensures { λ r. ⌜ ((ds : List Specification) (b : Process) → unread (now (kinds .entry)) (now (values .entry)) 0 ≡ «text-specifications» ds («text-process» b []) → start ≡ length (now (kinds .entry)) - length («text-process» b []) → Fills (now (source .entry)) (now (kinds .entry)) (now (places .entry)) (now (values .entry)) ds (now (table .entry)) (now (table .exit)) (arrays (now (sources .exit)) (now (lengths .exit)) (now (rows .exit)) (now (sorts .exit)) (now (words .exit)) (now (sizes .exit))) r) ⌝ }
+    ensures { λ r. ⌜ ((sizes : List ℕ) × ((ds : List Specification) (b : Process)
+        → unread (now (kinds .entry)) (now (values .entry)) 0 ≡ «text-specifications» ds («text-process» b [])
+        → start ≡ length (now (kinds .entry)) - length («text-process» b [])
+        → Fills (now (source .entry)) (now (kinds .entry)) (now (places .entry)) (now (values .entry)) ds (now (table .entry)) (now (table .exit))
+        (arrays (now («name_places» .exit)) (now («name_lengths» .exit)) (now («name_rows» .exit)) (now (sorts .exit)) (now (words .exit)) sizes) r)) ⌝ }
 {
     let mut i: usize = 0;
     let mut names: usize = 0;
@@ -215,12 +219,11 @@ pub fn bind(
                 kinds,
                 places,
                 values,
-                sources,
-                lengths,
-                rows,
+                name_places,
+                name_lengths,
+                name_rows,
                 sorts,
                 words,
-                sizes,
                 table,
                 i,
                 names,

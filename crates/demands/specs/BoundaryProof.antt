@@ -28,12 +28,28 @@ module _ (p : Program) (memory : List ℕ) (lent : Lent p memory) (d : Demand3 p
   each-left [] w m r l a = tt
   each-left (step ∷ ks) w m r l a =
       rw (state-back m r) (
-        record { answered = a .0 .not-refused; state-words = refl; sp-low = a .0 .kept .sp-low; sp-high = a .0 .kept .sp-high; all-words = step-length (image p) w m ∙ l; untouched = a .0 .kept .untouched; ended = a .0 .ended },
+        record {
+          answered = a .0 .not-refused;
+          state-words = refl;
+          sp-low = a .0 .kept .sp-low;
+          sp-high = a .0 .kept .sp-high;
+          all-words = step-length (image p) w m ∙ l;
+          untouched = a .0 .kept .untouched;
+          ended = a .0 .ended;
+        },
         each-left ks _ _ (step-registers (image p) w m ∙ r) (step-length (image p) w m ∙ l) (a .1),
       )
   each-left (run n ∷ ks) w m r l a =
       rw (state-back m r) (
-        record { answered = a .0 .not-refused; state-words = refl; sp-low = a .0 .kept .sp-low; sp-high = a .0 .kept .sp-high; all-words = run-length n (image p) w m ∙ l; untouched = a .0 .kept .untouched; ended = a .0 .ended },
+        record {
+          answered = a .0 .not-refused;
+          state-words = refl;
+          sp-low = a .0 .kept .sp-low;
+          sp-high = a .0 .kept .sp-high;
+          all-words = run-length n (image p) w m ∙ l;
+          untouched = a .0 .kept .untouched;
+          ended = a .0 .ended;
+        },
         each-left ks _ _ (run-registers n (image p) w m ∙ r) (run-length n (image p) w m ∙ l) (a .1),
       )
 

@@ -34,7 +34,8 @@ abbrev memory : List ℕ
 memory = replicate 13 0xFFFFFFFF
 
 accepted-five : front source 32 640 ≡ accepted 8 five
-unfolding front outcome scan lexeme lexemes.named lexemes.number double single symbol one-of digit-value name-character span numeral same word middle-word late-word reads run symbols entry-at unread-place named least lookup
+unfolding front outcome scan lexeme lexemes.named lexemes.number double single symbol one-of digit-value name-character span numeral same word middle-word late-word reads run
+    symbols entry-at unread-place named least lookup
 accepted-five = refl
 
 translates-five : Translates source 32 640 five

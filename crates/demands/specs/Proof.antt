@@ -28,7 +28,18 @@ module _ (source : List ℕ) (table code : ℕ) where
   refuses n p f =
       let e = first-is-refused source table code n p f in
       subst (λ (o : Outcome). Refused source table code n p (translated table code o)) (sym e)
-      (record { status = refl; place = refl; numbered = refusal source table code n p e; table-zero = refl; code-zero = refl; no-tokens = refl; no-rows = refl; no-data = refl; no-depth = refl; no-code = refl })
+      (record {
+        status = refl;
+        place = refl;
+        numbered = refusal source table code n p e;
+        table-zero = refl;
+        code-zero = refl;
+        no-tokens = refl;
+        no-rows = refl;
+        no-data = refl;
+        no-depth = refl;
+        no-code = refl;
+      })
 
   refused-first : 0 < translation source table code .answer .status → FirstDeserved source table code (translation source table code .answer .status) (translation source table code .answer .place)
   unfolding translation

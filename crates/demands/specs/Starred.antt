@@ -73,7 +73,8 @@ comes-to (translating s) = seen (front s 32 640)
 comes-to (running s) = run-all (translation s 32 640)
 comes-to (encoding i) = halfwords (encodeOf i)
 
--- `var x; x := 2 + 3`, the empty source, `x := 1`, `{skip;}`; `#80000000 < 1` and `1 << 256`, each assigned to a variable; MOVI r0,5, ADDR r0,r1,r2, SUBR r3,r4,r5, STRI r0 to r7 offset 4, SHRI r0,r0,31, BU and BL to itself
+-- `var x; x := 2 + 3`, the empty source, `x := 1`, `{skip;}`; `#80000000 < 1` and `1 << 256`, each assigned to a variable; MOVI r0,5, ADDR r0,r1,r2, SUBR r3,r4,r5, STRI r0 to r7 offset 4,
+-- SHRI r0,r0,31, BU and BL to itself
 abbrev pub cases : List Case
 cases =
     translating (ascii "var x; x := 2 + 3")
@@ -109,5 +110,9 @@ answers =
     ∷ []
 
 pub starred : map comes-to cases ≡ answers
-unfolding front outcome scan lexeme lexemes.named lexemes.number double single symbol one-of digit-value name-character span numeral same word middle-word late-word reads run symbols entry-at unread-place named least lookup data-words table-of row-count rows count rows-process count-process declared-rows translation image image-code process-code expression-code push-constant less-than far-shift work-diadic-code assign-variable load-constant trailingZeros leadingZeros bytes bytes-of size encoded-bytes encodeOf put put-long swap32 narrow widen startOf startRefusal refusalOf freshOf runOf runFrom onceOf fetchOf withSecond decodeOf find table executeOf exec.load exec.store slotOf result takes next branch jump state.moves shift-left shift-right
+unfolding front outcome scan lexeme lexemes.named lexemes.number double single symbol one-of digit-value name-character span numeral same word middle-word late-word reads run
+    symbols entry-at unread-place named least lookup data-words table-of row-count rows count rows-process count-process declared-rows translation image image-code process-code
+    expression-code push-constant less-than far-shift work-diadic-code assign-variable load-constant trailingZeros leadingZeros bytes bytes-of size encoded-bytes encodeOf put put-long
+    swap32 narrow widen startOf startRefusal refusalOf freshOf runOf runFrom onceOf fetchOf withSecond decodeOf find table executeOf exec.load exec.store slotOf result takes next
+    branch jump state.moves shift-left shift-right
 starred = refl

@@ -40,10 +40,6 @@ line-fits at first h = take-all 128 (line at first h) (omega (arith, line-short 
 
 -- ── what is read back ──
 
-pub address-back : (at first h : ℕ) → at < 65536 → number 16 0 (take 4 (line at first h)) ≡ at
-unfolding line
-address-back at first h = hexadecimal-back at
-
 pub first-back : (at first h : ℕ) → first < 65536 → number 16 0 (take 4 (drop 5 (line at first h))) ≡ first
 unfolding line
 first-back at first h = hexadecimal-back first

@@ -17,8 +17,11 @@ use Rattle.grammar.specs.Automaton.{ExpressionContext, in-brackets, in-subscrip
 use Rattle.grammar.specs.Tokens.{unread}
 use Rattle.grammar.specs.Rows.{row, monadic-number, diadic-number, count-expression, count-chain, count-operand, rows-expression, rows-chain, rows-operand}
 use Rattle.grammar.specs.RowLaws.{sets-rows, length-expression, length-chain, length-operand}
-use Rattle.grammar.specs.Moves.{head-is, run-number, run-name, run-brackets, run-brackets-end, run-brackets-stop, run-subscript, run-subscript-end, run-subscript-stop, run-variable, run-expression, run-monadic, run-under, run-single, run-diadic, run-last, run-link}
+use Rattle.grammar.specs.Moves.{head-is, run-number, run-name, run-brackets, run-brackets-end, run-brackets-stop, run-subscript, run-subscript-end, run-subscript-stop, run-variable}
+use Rattle.grammar.specs.Moves.{run-expression, run-monadic, run-under, run-single, run-diadic, run-last, run-link}
 use Rattle.grammar.specs.Unread.{inside, unread-number, unread-name, unread-mark, unread-joins, unread-negates, unread-not, unread-goes-on, no-operand}
+use Rattle.program.specs.Layout.{row-words}
+use Rattle.program.specs.Layout as layout
 use Rattle.expressions.specs.Reads.{Form, Moved, Reads, operand-form, expression-form, chain-form, closed, deepened, counted-row, tabled, row-of-last, row-of-two, Within, Ready, Shallow}
 use Rattle.expressions.specs.declared.Read.{Read}
 use Rattle.expressions.specs.declared.Read.the-variants.{Done, Bad}
@@ -43,7 +46,7 @@ shallow-after kinds i n (Bad x) s h l e = rw e tt
 pub monadic-big : (o : ℕ) → is-monadic o ≡ true → 2 < o
 monadic-big o h = ⊎-elim (λ e. let z = eqb-true o kind.minus e in omega arith) (λ e. let z = eqb-true o kind.not e in omega arith) (either (eqb o kind.minus) (eqb o kind.not) h)
 
-pub diadic-big : (o : ℕ) → is-diadic o ≡ true → (30 < o) × (o ≤ 44)
+pub diadic-big : (o : ℕ) → is-diadic o ≡ true → (kind.operator-base < o) × (o ≤ kind.at-least)
 diadic-big o h =
     let j = both (leb kind.plus o) (leb o kind.at-least) h in
     let x = leb-true kind.plus o (j .0) in
@@ -58,14 +61,18 @@ moved-closed kinds i n k (Done j m p d) z h =
 moved-closed kinds i n k (Bad x) z h = h
 
 -- rows after rows, and the row that ends them
-pub table-one : (t t′ xs ρ : List ℕ) (n c m : ℕ) → length xs ≡ 4 * c → n + c ≡ m → t′ ≡ sets t (4 * n) xs → sets t′ (4 * m) ρ ≡ sets t (4 * n) (xs ++ ρ)
+pub table-one : (t t′ xs ρ : List ℕ) (n c m : ℕ) → length xs ≡ row-words * c → n + c ≡ m → t′ ≡ sets t (row-words * n) xs → sets t′ (row-words * m) ρ ≡ sets t (row-words * n) (xs ++ ρ)
 table-one t t′ xs ρ n c m l e h = rw h (sets-rows xs t n c m ρ l e)
 
-pub table-two : (t t′ t″ xs ys ρ : List ℕ) (n a m b l : ℕ) → length xs ≡ 4 * a → length ys ≡ 4 * b → n + a ≡ m → m + b ≡ l → t′ ≡ sets t (4 * n) xs → t″ ≡ sets t′ (4 * m) ys → sets t″ (4 * l) ρ ≡ sets t (4 * n) (xs ++ ys ++ ρ)
+pub table-two : (t t′ t″ xs ys ρ : List ℕ) (n a m b l : ℕ) → length xs ≡ row-words * a → length ys ≡ row-words * b → n + a ≡ m → m + b ≡ l → t′ ≡ sets t (row-words * n) xs
+    → t″ ≡ sets t′ (row-words * m) ys → sets t″ (row-words * l) ρ ≡ sets t (row-words * n) (xs ++ ys ++ ρ)
 table-two t t′ t″ xs ys ρ n a m b l p q e f x y = table-one t t″ (xs ++ ys) ρ n (a + b) l (simp length-append (omega arith)) (omega arith) (y ∙ table-one t t′ xs ys n a m p e x)
 
-pub table-three : (t t′ t″ t‴ xs ys zs ρ : List ℕ) (n a m b l c k : ℕ) → length xs ≡ 4 * a → length ys ≡ 4 * b → length zs ≡ 4 * c → n + a ≡ m → m + b ≡ l → l + c ≡ k → t′ ≡ sets t (4 * n) xs → t″ ≡ sets t′ (4 * m) ys → t‴ ≡ sets t″ (4 * l) zs → sets t‴ (4 * k) ρ ≡ sets t (4 * n) (xs ++ ys ++ zs ++ ρ)
-table-three t t′ t″ t‴ xs ys zs ρ n a m b l c k p q r e f g x y z = table-one t t‴ (xs ++ ys ++ zs) ρ n (a + b + c) k (simp length-append (omega arith)) (omega arith) (z ∙ table-two t t′ t″ xs ys zs n a m b l p q e f x y)
+pub table-three : (t t′ t″ t‴ xs ys zs ρ : List ℕ) (n a m b l c k : ℕ) → length xs ≡ row-words * a → length ys ≡ row-words * b → length zs ≡ row-words * c → n + a ≡ m → m + b ≡ l
+    → l + c ≡ k → t′ ≡ sets t (row-words * n) xs → t″ ≡ sets t′ (row-words * m) ys → t‴ ≡ sets t″ (row-words * l) zs
+    → sets t‴ (row-words * k) ρ ≡ sets t (row-words * n) (xs ++ ys ++ zs ++ ρ)
+table-three t t′ t″ t‴ xs ys zs ρ n a m b l c k p q r e f g x y z =
+    table-one t t‴ (xs ++ ys ++ zs) ρ n (a + b + c) k (simp length-append (omega arith)) (omega arith) (z ∙ table-two t t′ t″ xs ys zs n a m b l p q e f x y)
 
 -- a part and the token that closes it
 abbrev pub closing : (F : Form) (C : Type 0) → (C → F .Context) → (F .Tree → C → State) → Form
@@ -95,37 +102,60 @@ module _ (kinds values : List ℕ) (i n : ℕ) (t : List ℕ) where
     close-part (Bad x) t′ h = (h .0, λ k. h .1 (c k))
 
   -- operands
-  pub operand-number : (t′ : List ℕ) → getD kinds i 0 ≡ 1 → t′ ≡ sets t (4 * n) (row 3 (getD values i 0) 0 0) → Reads operand-form kinds values i n t (Done (i + 1) (n + 1) 0 1) t′
+  pub operand-number : (t′ : List ℕ) → getD kinds i 0 ≡ kind.number → t′ ≡ sets t (row-words * n) (row layout.number (getD values i 0) 0 0)
+      → Reads operand-form kinds values i n t (Done (i + 1) (n + 1) 0 1) t′
   unfolding count-operand rows-operand
   operand-number t′ e h =
-      let l = inside kinds i 1 e (omega arith) in
-      (record { short = omega arith; grew = omega arith; few = omega arith; shallow = omega arith; low = omega arith }, record { tree = constant (getD values i 0); counted = refl; table = h; depths = refl; deepests = refl; comes = λ k. rw (unread-number kinds values i e) (run-number _ k _) })
+      let l = inside kinds i kind.number e (omega arith) in (
+        record { short = omega arith; grew = omega arith; few = omega arith; shallow = omega arith; low = omega arith },
+        record { tree = constant (getD values i 0); counted = refl; table = h; depths = refl; deepests = refl; comes = λ k. rw (unread-number kinds values i e) (run-number _ k _) },
+      )
 
-  pub operand-variable : (t′ : List ℕ) → getD kinds i 0 ≡ 2 → ¬ (getD kinds (i + 1) 0 ≡ kind.open-subscript) → t′ ≡ sets t (4 * n) (row 4 i 0 0) → Reads operand-form kinds values i n t (Done (i + 1) (n + 1) 0 1) t′
+  pub operand-variable : (t′ : List ℕ) → getD kinds i 0 ≡ kind.name → ¬ (getD kinds (i + 1) 0 ≡ kind.open-subscript) → t′ ≡ sets t (row-words * n) (row layout.variable i 0 0)
+      → Reads operand-form kinds values i n t (Done (i + 1) (n + 1) 0 1) t′
   unfolding count-operand rows-operand
   operand-variable t′ e z h =
-      let l = inside kinds i 2 e (omega arith) in
-      (record { short = omega arith; grew = omega arith; few = omega arith; shallow = omega arith; low = omega arith }, record { tree = variable i; counted = refl; table = h; depths = refl; deepests = refl; comes = λ k. rw (unread-name kinds values i e) (run-name _ k i ∙ run-variable _ k i (unread-not kinds values (i + 1) kind.open-subscript (omega arith) z)) })
+      let l = inside kinds i kind.name e (omega arith) in (
+        record { short = omega arith; grew = omega arith; few = omega arith; shallow = omega arith; low = omega arith },
+        record {
+          tree = variable i;
+          counted = refl;
+          table = h;
+          depths = refl;
+          deepests = refl;
+          comes = λ k. rw (unread-name kinds values i e) (run-name _ k i ∙ run-variable _ k i (unread-not kinds values (i + 1) kind.open-subscript (omega arith) z));
+        },
+      )
 
-  pub operand-none : i ≤ length kinds → (t′ : List ℕ) → ¬ (getD kinds i 0 ≡ 1) → ¬ (getD kinds i 0 ≡ 2) → ¬ (getD kinds i 0 ≡ kind.open-bracket) → Reads operand-form kinds values i n t (Bad i) t′
+  pub operand-none : i ≤ length kinds → (t′ : List ℕ) → ¬ (getD kinds i 0 ≡ kind.number) → ¬ (getD kinds i 0 ≡ kind.name) → ¬ (getD kinds i 0 ≡ kind.open-bracket)
+      → Reads operand-form kinds values i n t (Bad i) t′
   operand-none l t′ a b c = (l, λ k. no-operand kinds values i k a b c)
 
   into-brackets : getD kinds i 0 ≡ kind.open-bracket → (k : OperandContext) → run (unread kinds values i) (need-operand k) ≡ run (unread kinds values (i + 1)) (need-expression (in-brackets k))
   into-brackets e k = rw (unread-mark kinds values i kind.open-bracket e (omega arith)) (run-brackets _ k)
 
-  brackets-by : (q : Read) (t′ : List ℕ) → getD kinds i 0 ≡ kind.open-bracket → Reads (closing expression-form OperandContext in-brackets (λ e k. have-operand (bracketed e) k)) kinds values (i + 1) n t q t′ → Reads operand-form kinds values i n t (deepened q 0 0 0 1) t′
+  brackets-by : (q : Read) (t′ : List ℕ) → getD kinds i 0 ≡ kind.open-bracket
+      → Reads (closing expression-form OperandContext in-brackets (λ e k. have-operand (bracketed e) k)) kinds values (i + 1) n t q t′
+      → Reads operand-form kinds values i n t (deepened q 0 0 0 1) t′
   unfolding count-operand rows-operand
   brackets-by (Done j m p d) t′ e h =
       let w = h .0 in
       let x = h .1 .depths in
-      let y = h .1 .deepests in
-      (record { short = w .short; grew = w .grew; few = omega arith; shallow = omega arith; low = omega arith }, record { tree = bracketed (h .1 .tree); counted = h .1 .counted; table = h .1 .table; depths = omega arith; deepests = omega arith; comes = λ k. into-brackets e k ∙ h .1 .comes k })
+      let y = h .1 .deepests in (
+        record { short = w .short; grew = w .grew; few = omega arith; shallow = omega arith; low = omega arith },
+        record { tree = bracketed (h .1 .tree); counted = h .1 .counted; table = h .1 .table; depths = omega arith; deepests = omega arith; comes = λ k. into-brackets e k ∙ h .1 .comes k },
+      )
   brackets-by (Bad x) t′ e h = (h .0, λ k. into-brackets e k ∙ h .1 k)
 
-  into-subscript : getD kinds i 0 ≡ 2 → getD kinds (i + 1) 0 ≡ kind.open-subscript → (k : OperandContext) → run (unread kinds values i) (need-operand k) ≡ run (unread kinds values (i + 2)) (need-expression (in-subscript i k))
-  into-subscript e f k = rw (unread-name kinds values i e) (run-name _ k i ∙ rw (unread-mark kinds values (i + 1) kind.open-subscript f (omega arith)) (run-subscript _ k i ∙ ap (λ (x : ℕ). run (unread kinds values x) (need-expression (in-subscript i k))) (omega arith)))
+  into-subscript : getD kinds i 0 ≡ kind.name → getD kinds (i + 1) 0 ≡ kind.open-subscript → (k : OperandContext)
+      → run (unread kinds values i) (need-operand k) ≡ run (unread kinds values (i + 2)) (need-expression (in-subscript i k))
+  into-subscript e f k = rw (unread-name kinds values i e)
+      (run-name _ k i ∙ rw (unread-mark kinds values (i + 1) kind.open-subscript f (omega arith))
+      (run-subscript _ k i ∙ ap (λ (x : ℕ). run (unread kinds values x) (need-expression (in-subscript i k))) (omega arith)))
 
-  element-by : (q : Read) (t′ : List ℕ) → getD kinds i 0 ≡ 2 → getD kinds (i + 1) 0 ≡ kind.open-subscript → Reads (closing expression-form OperandContext (in-subscript i) (λ e k. have-operand (element i e) k)) kinds values (i + 2) n t q t′ → Reads operand-form kinds values i n t (deepened (counted-row q) 0 0 0 1) (tabled t′ q (row-of-last 5 i))
+  element-by : (q : Read) (t′ : List ℕ) → getD kinds i 0 ≡ kind.name → getD kinds (i + 1) 0 ≡ kind.open-subscript
+      → Reads (closing expression-form OperandContext (in-subscript i) (λ e k. have-operand (element i e) k)) kinds values (i + 2) n t q t′
+      → Reads operand-form kinds values i n t (deepened (counted-row q) 0 0 0 1) (tabled t′ q (row-of-last layout.element i))
   unfolding count-operand rows-operand
   element-by (Done j m p d) t′ e f h =
       let w = h .0 in
@@ -145,21 +175,30 @@ module _ (kinds values : List ℕ) (i n : ℕ) (t : List ℕ) where
   element-by (Bad x) t′ e f h = (h .0, λ k. into-subscript e f k ∙ h .1 k)
 
 module _ (kinds values : List ℕ) (i n : ℕ) (t : List ℕ) (r : Read) (t′ : List ℕ) where
-  pub operand-brackets : getD kinds i 0 ≡ kind.open-bracket → Reads expression-form kinds values (i + 1) n t r t′ → Reads operand-form kinds values i n t (deepened (closed kinds kind.close-bracket r) 0 0 0 1) t′
-  operand-brackets e h = brackets-by kinds values i n t (closed kinds kind.close-bracket r) t′ e (close-part kinds values (i + 1) n t expression-form OperandContext in-brackets (λ e k. have-operand (bracketed e) k) kind.close-bracket (omega arith) (λ w e k. run-brackets-end w k e) (λ w e k z. run-brackets-stop w k e z) r t′ h)
+  pub operand-brackets : getD kinds i 0 ≡ kind.open-bracket → Reads expression-form kinds values (i + 1) n t r t′
+      → Reads operand-form kinds values i n t (deepened (closed kinds kind.close-bracket r) 0 0 0 1) t′
+  operand-brackets e h = brackets-by kinds values i n t (closed kinds kind.close-bracket r) t′ e
+      (close-part kinds values (i + 1) n t expression-form OperandContext in-brackets (λ e k. have-operand (bracketed e) k) kind.close-bracket (omega arith)
+      (λ w e k. run-brackets-end w k e) (λ w e k z. run-brackets-stop w k e z) r t′ h)
 
-  pub operand-element : getD kinds i 0 ≡ 2 → getD kinds (i + 1) 0 ≡ kind.open-subscript → Reads expression-form kinds values (i + 2) n t r t′ → Reads operand-form kinds values i n t (deepened (counted-row (closed kinds kind.close-subscript r)) 0 0 0 1) (tabled t′ (closed kinds kind.close-subscript r) (row-of-last 5 i))
-  operand-element e f h = element-by kinds values i n t (closed kinds kind.close-subscript r) t′ e f (close-part kinds values (i + 2) n t expression-form OperandContext (in-subscript i) (λ e k. have-operand (element i e) k) kind.close-subscript (omega arith) (λ w e k. run-subscript-end w k i e) (λ w e k z. run-subscript-stop w k i e z) r t′ h)
+  pub operand-element : getD kinds i 0 ≡ kind.name → getD kinds (i + 1) 0 ≡ kind.open-subscript → Reads expression-form kinds values (i + 2) n t r t′
+      → Reads operand-form kinds values i n t (deepened (counted-row (closed kinds kind.close-subscript r)) 0 0 0 1)
+      (tabled t′ (closed kinds kind.close-subscript r) (row-of-last layout.element i))
+  operand-element e f h = element-by kinds values i n t (closed kinds kind.close-subscript r) t′ e f
+      (close-part kinds values (i + 2) n t expression-form OperandContext (in-subscript i) (λ e k. have-operand (element i e) k) kind.close-subscript (omega arith)
+      (λ w e k. run-subscript-end w k i e) (λ w e k z. run-subscript-stop w k i e z) r t′ h)
 
 -- expressions and chains
 module _ (kinds values : List ℕ) (i n : ℕ) (t : List ℕ) where
   to-operand : is-monadic (getD kinds i 0) ≡ false → (k : ExpressionContext) → run (unread kinds values i) (need-expression k) ≡ run (unread kinds values i) (need-operand (first k))
   to-operand z k = run-expression _ k (unread-negates kinds values i ∙ z)
 
-  into-monadic : (o : ℕ) → getD kinds i 0 ≡ o → 2 < o → is-monadic o ≡ true → (k : ExpressionContext) → run (unread kinds values i) (need-expression k) ≡ run (unread kinds values (i + 1)) (need-operand (under o k))
+  into-monadic : (o : ℕ) → getD kinds i 0 ≡ o → 2 < o → is-monadic o ≡ true → (k : ExpressionContext)
+      → run (unread kinds values i) (need-expression k) ≡ run (unread kinds values (i + 1)) (need-operand (under o k))
   into-monadic o e big z k = rw (unread-mark kinds values i o e big) (run-monadic _ k o z)
 
-  pub expression-monadic : (o : ℕ) (r : Read) (t′ : List ℕ) → getD kinds i 0 ≡ o → 2 < o → is-monadic o ≡ true → Reads operand-form kinds values (i + 1) n t r t′ → Reads expression-form kinds values i n t (deepened (counted-row r) 0 0 0 1) (tabled t′ r (row-of-last 6 (monadic-number o)))
+  pub expression-monadic : (o : ℕ) (r : Read) (t′ : List ℕ) → getD kinds i 0 ≡ o → 2 < o → is-monadic o ≡ true → Reads operand-form kinds values (i + 1) n t r t′
+      → Reads expression-form kinds values i n t (deepened (counted-row r) 0 0 0 1) (tabled t′ r (row-of-last layout.monadic (monadic-number o)))
   unfolding count-expression rows-expression
   expression-monadic o (Done j m p d) t′ e big z h =
       let w = h .0 in
@@ -188,15 +227,36 @@ module _ (kinds values : List ℕ) (i n : ℕ) (t : List ℕ) where
   module _ (j m p d : ℕ) (t′ : List ℕ) (h : Reads operand-form kinds values i n t (Done j m p d) t′) where
     pub expression-single : is-monadic (getD kinds i 0) ≡ false → is-diadic (getD kinds j 0) ≡ false → Reads expression-form kinds values i n t (Done j m p d) t′
     unfolding count-expression rows-expression
-    expression-single z y = (h .0, record { tree = single (h .1 .tree); counted = h .1 .counted; table = h .1 .table; depths = h .1 .depths; deepests = h .1 .deepests; comes = λ k. to-operand z k ∙ h .1 .comes (first k) ∙ run-single _ k (h .1 .tree) (unread-joins kinds values j ∙ y) })
+    expression-single z y = (
+      h .0,
+      record {
+        tree = single (h .1 .tree);
+        counted = h .1 .counted;
+        table = h .1 .table;
+        depths = h .1 .depths;
+        deepests = h .1 .deepests;
+        comes = λ k. to-operand z k ∙ h .1 .comes (first k) ∙ run-single _ k (h .1 .tree) (unread-joins kinds values j ∙ y);
+      },
+    )
 
     pub chain-last : (o : ℕ) → 2 < o → pick (is-associative o) (eqb (getD kinds j 0) o) false ≡ false → Reads (chain-form o) kinds values i n t (Done j m p d) t′
     unfolding count-chain rows-chain
-    chain-last o big z = (h .0, record { tree = last (h .1 .tree); counted = h .1 .counted; table = h .1 .table; depths = h .1 .depths; deepests = h .1 .deepests; comes = λ k. h .1 .comes (next o k) ∙ run-last _ k o (h .1 .tree) (unread-goes-on kinds values j o big ∙ z) })
+    chain-last o big z = (
+      h .0,
+      record {
+        tree = last (h .1 .tree);
+        counted = h .1 .counted;
+        table = h .1 .table;
+        depths = h .1 .depths;
+        deepests = h .1 .deepests;
+        comes = λ k. h .1 .comes (next o k) ∙ run-last _ k o (h .1 .tree) (unread-goes-on kinds values j o big ∙ z);
+      },
+    )
 
     -- an operator o at j, and the operands after it
     module _ (o : ℕ) (e : getD kinds j 0 ≡ o) (big : 2 < o) where
-      pub expression-diadic : is-monadic (getD kinds i 0) ≡ false → is-diadic o ≡ true → (r : Read) (t″ : List ℕ) → Reads (chain-form o) kinds values (j + 1) m t′ r t″ → Reads expression-form kinds values i n t (deepened (counted-row r) 0 d 0 1) (tabled t″ r (row-of-two 7 (diadic-number o) (m - 1)))
+      pub expression-diadic : is-monadic (getD kinds i 0) ≡ false → is-diadic o ≡ true → (r : Read) (t″ : List ℕ) → Reads (chain-form o) kinds values (j + 1) m t′ r t″
+          → Reads expression-form kinds values i n t (deepened (counted-row r) 0 d 0 1) (tabled t″ r (row-of-two layout.diadic (diadic-number o) (m - 1)))
       unfolding count-expression rows-expression
       expression-diadic y z (Done k l a b) t″ g =
           let w = h .0 in
@@ -210,7 +270,9 @@ module _ (kinds values : List ℕ) (i n : ℕ) (t : List ℕ) where
             record {
               tree = diadic o (h .1 .tree) (g .1 .tree);
               counted = omega arith;
-              table = rw (c, c′) (table-two t t′ t″ (rows-operand (h .1 .tree) n) (rows-chain (g .1 .tree) o m) _ n (count-operand (h .1 .tree)) m (count-chain (g .1 .tree)) l (length-operand (h .1 .tree) n) (length-chain (g .1 .tree) o m) c c′ (h .1 .table) (g .1 .table));
+              table = rw (c, c′)
+                  (table-two t t′ t″ (rows-operand (h .1 .tree) n) (rows-chain (g .1 .tree) o m) _ n (count-operand (h .1 .tree)) m (count-chain (g .1 .tree)) l (length-operand (h .1 .tree) n)
+                  (length-chain (g .1 .tree) o m) c c′ (h .1 .table) (g .1 .table));
               depths = omega arith;
               deepests = omega arith;
               comes = λ K. to-operand y K ∙ h .1 .comes (first K) ∙ rw (unread-mark kinds values j o e big) (run-diadic _ K o _ z ∙ g .1 .comes (after (h .1 .tree) K));
@@ -218,7 +280,8 @@ module _ (kinds values : List ℕ) (i n : ℕ) (t : List ℕ) where
           )
       expression-diadic y z (Bad x) t″ g = (g .0, λ K. to-operand y K ∙ h .1 .comes (first K) ∙ rw (unread-mark kinds values j o e big) (run-diadic _ K o _ z ∙ g .1 (after (h .1 .tree) K)))
 
-      pub chain-more : is-associative o ≡ true → (r : Read) (t″ : List ℕ) → Reads (chain-form o) kinds values (j + 1) m t′ r t″ → Reads (chain-form o) kinds values i n t (deepened (counted-row r) 0 d 0 1) (tabled t″ r (row-of-two 7 (diadic-number o) (m - 1)))
+      pub chain-more : is-associative o ≡ true → (r : Read) (t″ : List ℕ) → Reads (chain-form o) kinds values (j + 1) m t′ r t″
+          → Reads (chain-form o) kinds values i n t (deepened (counted-row r) 0 d 0 1) (tabled t″ r (row-of-two layout.diadic (diadic-number o) (m - 1)))
       unfolding count-chain rows-chain
       chain-more z (Done k l a b) t″ g =
           let w = h .0 in
@@ -232,7 +295,9 @@ module _ (kinds values : List ℕ) (i n : ℕ) (t : List ℕ) where
             record {
               tree = more (h .1 .tree) (g .1 .tree);
               counted = omega arith;
-              table = rw (c, c′) (table-two t t′ t″ (rows-operand (h .1 .tree) n) (rows-chain (g .1 .tree) o m) _ n (count-operand (h .1 .tree)) m (count-chain (g .1 .tree)) l (length-operand (h .1 .tree) n) (length-chain (g .1 .tree) o m) c c′ (h .1 .table) (g .1 .table));
+              table = rw (c, c′)
+                  (table-two t t′ t″ (rows-operand (h .1 .tree) n) (rows-chain (g .1 .tree) o m) _ n (count-operand (h .1 .tree)) m (count-chain (g .1 .tree)) l (length-operand (h .1 .tree) n)
+                  (length-chain (g .1 .tree) o m) c c′ (h .1 .table) (g .1 .table));
               depths = omega arith;
               deepests = omega arith;
               comes = λ K. h .1 .comes (next o K) ∙ rw (unread-mark kinds values j o e big) (run-link _ K o _ z ∙ g .1 .comes (link (h .1 .tree) K));

@@ -12,6 +12,7 @@ use Rattle.grammar.specs.Automaton.{ExpressionContext, OperandContext, ChainCon
 use Rattle.grammar.specs.Tokens.{unread}
 use Rattle.grammar.specs.Rows.{row, count-expression, count-chain, count-operand, rows-expression, rows-chain, rows-operand}
 use Rattle.grammar.specs.Depth.{depth-expression, depth-chain, depth-operand}
+use Rattle.program.specs.Layout.{row-words}
 use Rattle.expressions.specs.declared.Read.{Read}
 use Rattle.expressions.specs.declared.Read.the-variants.{Done, Bad}
 
@@ -38,7 +39,7 @@ pub record Went (kinds : List ℕ) (i n j m p d : ℕ) : Type 0 where
 pub record Part (F : Form) (kinds values : List ℕ) (i n j m p d : ℕ) (t t′ : List ℕ) : Type 0 where
   pub tree : F .Tree
   pub counted : n + F .count tree ≡ m
-  pub table : t′ ≡ sets t (4 * n) (F .rows tree n)
+  pub table : t′ ≡ sets t (row-words * n) (F .rows tree n)
   pub depths : p ≡ F .depth tree
   pub deepests : d ≡ F .deepest tree
   pub comes : (k : F .Context) → run (unread kinds values i) (F .need k) ≡ run (unread kinds values j) (F .have tree k)
@@ -60,11 +61,29 @@ abbrev pub operand-form : Form
 operand-form = record { Tree = Operand; count = count-operand; rows = rows-operand; depth = λ a. 0; deepest = depth-operand; Context = OperandContext; need = need-operand; have = have-operand }
 
 abbrev pub expression-form : Form
-expression-form = record { Tree = Expression; count = count-expression; rows = rows-expression; depth = λ e. 0; deepest = depth-expression; Context = ExpressionContext; need = need-expression; have = have-expression }
+expression-form = record {
+  Tree = Expression;
+  count = count-expression;
+  rows = rows-expression;
+  depth = λ e. 0;
+  deepest = depth-expression;
+  Context = ExpressionContext;
+  need = need-expression;
+  have = have-expression;
+}
 
 -- the operands after an operator o
 abbrev pub chain-form : ℕ → Form
-chain-form o = record { Tree = Chain; count = count-chain; rows = λ c n. rows-chain c o n; depth = λ c. 0; deepest = depth-chain; Context = ChainContext; need = λ k. need-operand (next o k); have = λ c k. have-expression (chain-built k o c) (chain-base k) }
+chain-form o = record {
+  Tree = Chain;
+  count = count-chain;
+  rows = λ c n. rows-chain c o n;
+  depth = λ c. 0;
+  deepest = depth-chain;
+  Context = ChainContext;
+  need = λ k. need-operand (next o k);
+  have = λ c k. have-expression (chain-built k o c) (chain-base k);
+}
 
 -- the closing token of kind k after what was read
 abbrev pub closed : List ℕ → ℕ → Read → Read
@@ -82,7 +101,7 @@ counted-row (Done j m p d) = Done j (m + 1) p d
 counted-row (Bad x) = Bad x
 
 abbrev pub tabled : List ℕ → Read → (ℕ → List ℕ) → List ℕ
-tabled t (Done j m p d) f = sets t (4 * m) (f m)
+tabled t (Done j m p d) f = sets t (row-words * m) (f m)
 tabled t (Bad x) f = t
 
 -- the row (kind, a, last row, 0), and (kind, a, b, last row)

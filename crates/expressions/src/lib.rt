@@ -6,9 +6,15 @@ ghost use lib.Seq.{sets};
 ghost use lib.Dec.{eqb};
 ghost use mathlib.Core.Bool.{false};
 ghost use Rattle.word.specs.Choice.{pick};
+ghost use Rattle.spelling.specs.Kinds as token;
+ghost use Rattle.program.specs.Layout.{«row-words»};
 ghost use Rattle.grammar.specs.Grammar.{«is-monadic», «is-diadic», «is-associative»};
 ghost use Rattle.grammar.specs.Rows.{row, «monadic-number»};
-ghost use Rattle.expressions.specs.Reads.{Reads, «expression-form», «operand-form», «chain-form», Fit, Within, Ready, Shallow, closed, deepened, tabled, «counted-row», «row-of-last», «row-of-two»};
+ghost use Rattle.expressions.specs.Reads.{Reads, «expression-form», «operand-form», «chain-form», Fit, Within, Ready, Shallow, closed, deepened, tabled, «counted-row», «row-of-last»};
+ghost use Rattle.expressions.specs.Reads.{«row-of-two»};
+use program::operator;
+use program::row;
+use spelling::kind;
 
 // The next token to read, the number of rows, the process depth and the deepest expression; or the token that no program continues with.
 pub enum Read {
@@ -26,12 +32,12 @@ pub fn kind_at(kinds: &[u8], i: usize) -> u8
 // Row n of the table.
 pub fn put(table: &mut [u32; 4096], n: usize, kind: u32, a: u32, b: u32, c: u32)
     requires { ⌜ n < 1024 ⌝ }
-    ensures { λ _. ⌜ now (table .exit) ≡ sets (now (table .entry)) (4 * n) (row kind a b c) ⌝ }
+    ensures { λ _. ⌜ now (table .exit) ≡ sets (now (table .entry)) («row-words» * n) (row kind a b c) ⌝ }
 {
-    table[4 * n] = kind;
-    table[4 * n + 1] = a;
-    table[4 * n + 2] = b;
-    table[4 * n + 3] = c;
+    table[row::WORDS * n] = kind;
+    table[row::WORDS * n + 1] = a;
+    table[row::WORDS * n + 2] = b;
+    table[row::WORDS * n + 3] = c;
 }
 
 // The closing token of kind `want` after what was read.
@@ -104,31 +110,43 @@ pub fn add_row_of_two(table: &mut [u32; 4096], r: Read, kind: u32, a: u32, b: u3
 pub fn is_monadic(k: u8) -> bool
     ensures { λ r. ⌜ r ≡ «is-monadic» k ⌝ }
 {
-    if k == 32 { true } else { k == 23 }
+    if k == kind::MINUS {
+        true
+    } else {
+        k == kind::NOT
+    }
 }
 
 // The number of a monadic operator in the syntax table.
 fn monadic_number(k: u8) -> u32
     ensures { λ r. ⌜ r ≡ «monadic-number» k ⌝ }
 {
-    if k == 32 { 1 } else { 2 }
+    if k == kind::MINUS {
+        operator::NEGATE
+    } else {
+        operator::INVERT
+    }
 }
 
 pub fn is_diadic(k: u8) -> bool
     ensures { λ r. ⌜ r ≡ «is-diadic» k ⌝ }
 {
-    if 31 <= k { k <= 44 } else { false }
+    if kind::PLUS <= k {
+        k <= kind::AT_LEAST
+    } else {
+        false
+    }
 }
 
 // A chain of operator o goes on with a token of kind k.
 fn goes_on(o: u8, k: u8) -> bool
     ensures { λ r. ⌜ r ≡ pick («is-associative» o) (eqb k o) false ⌝ }
 {
-    if o == 31 {
+    if o == kind::PLUS {
         return k == o;
     }
-    if 33 <= o {
-        if o <= 36 {
+    if kind::TIMES <= o {
+        if o <= kind::XOR {
             return k == o;
         }
     }
@@ -143,7 +161,7 @@ pub fn expression(kinds: &[u8], values: &[u32], table: &mut [u32; 4096], n: usiz
     let k = kind_at(kinds, i);
     if is_monadic(k) {
         let r = operand(kinds, values, table, n, i + 1);
-        let s = add_row(table, r, 6, monadic_number(k));
+        let s = add_row(table, r, row::MONADIC, monadic_number(k));
         return deepen(s, 0, 0, 0, 1);
     }
     match operand(kinds, values, table, n, i) {
@@ -152,7 +170,13 @@ pub fn expression(kinds: &[u8], values: &[u32], table: &mut [u32; 4096], n: usiz
             let o = kind_at(kinds, j);
             if is_diadic(o) {
                 let r = chain(kinds, values, table, o, m, j + 1);
-                let s = add_row_of_two(table, r, 7, o as u32 - 30, (m - 1) as u32);
+                let s = add_row_of_two(
+                    table,
+                    r,
+                    row::DIADIC,
+                    o as u32 - kind::OPERATOR_BASE,
+                    (m - 1) as u32,
+                );
                 return deepen(s, 0, d, 0, 1);
             }
             Read::Done(j, m, p, d)
@@ -162,7 +186,7 @@ pub fn expression(kinds: &[u8], values: &[u32], table: &mut [u32; 4096], n: usiz
 
 // The operands after an operator o, grouped to the right.
 fn chain(kinds: &[u8], values: &[u32], table: &mut [u32; 4096], o: u8, n: usize, i: usize) -> Read
-    requires { ⌜ (Fit (now kinds) (now values) n i) × (30 < o) ⌝ }
+    requires { ⌜ (Fit (now kinds) (now values) n i) × (token.«operator-base» < o) ⌝ }
     ensures { λ r. ⌜ Reads («chain-form» o) (now (kinds .entry)) (now (values .entry)) i n (now (table .entry)) r (now (table .exit)) ⌝ }
 {
     match operand(kinds, values, table, n, i) {
@@ -170,7 +194,13 @@ fn chain(kinds: &[u8], values: &[u32], table: &mut [u32; 4096], o: u8, n: usize,
         Read::Done(j, m, p, d) => {
             if goes_on(o, kind_at(kinds, j)) {
                 let r = chain(kinds, values, table, o, m, j + 1);
-                let joined = add_row_of_two(table, r, 7, o as u32 - 30, (m - 1) as u32);
+                let joined = add_row_of_two(
+                    table,
+                    r,
+                    row::DIADIC,
+                    o as u32 - kind::OPERATOR_BASE,
+                    (m - 1) as u32,
+                );
                 return deepen(joined, 0, d, 0, 1);
             }
             Read::Done(j, m, p, d)
@@ -183,22 +213,27 @@ fn operand(kinds: &[u8], values: &[u32], table: &mut [u32; 4096], n: usize, i: u
     ensures { λ r. ⌜ Reads «operand-form» (now (kinds .entry)) (now (values .entry)) i n (now (table .entry)) r (now (table .exit)) ⌝ }
 {
     let k = kind_at(kinds, i);
-    if k == 1 {
-        put(table, n, 3, values[i], 0, 0);
+    if k == kind::NUMBER {
+        put(table, n, row::NUMBER, values[i], 0, 0);
         return Read::Done(i + 1, n + 1, 0, 1);
     }
-    if k == 2 {
-        if kind_at(kinds, i + 1) == 6 {
+    if k == kind::NAME {
+        if kind_at(kinds, i + 1) == kind::OPEN_SUBSCRIPT {
             let r = expression(kinds, values, table, n, i + 2);
-            let s = add_row(table, close(kinds, r, 7), 5, i as u32);
+            let s = add_row(
+                table,
+                close(kinds, r, kind::CLOSE_SUBSCRIPT),
+                row::ELEMENT,
+                i as u32,
+            );
             return deepen(s, 0, 0, 0, 1);
         }
-        put(table, n, 4, i as u32, 0, 0);
+        put(table, n, row::VARIABLE, i as u32, 0, 0);
         return Read::Done(i + 1, n + 1, 0, 1);
     }
-    if k == 4 {
+    if k == kind::OPEN_BRACKET {
         let r = expression(kinds, values, table, n, i + 1);
-        return deepen(close(kinds, r, 5), 0, 0, 0, 1);
+        return deepen(close(kinds, r, kind::CLOSE_BRACKET), 0, 0, 0, 1);
     }
     Read::Bad(i)
 }

@@ -8,6 +8,7 @@ use lib.Dec.{leb}
 use lib.ListN.{length}
 use borrow.Author.Tests.{leb-false}
 use Rattle.word.specs.Choice.{pick}
+use Rattle.token.specs.Refusals as refusal
 use Rattle.token.specs.Lexemes.{lexeme}
 use Rattle.token.specs.Tokens.{Entry, Outcome, read, refused, also, taken, scan, outcome}
 use Rattle.token.specs.declared.Lexeme.{Lexeme}
@@ -27,7 +28,7 @@ few-taken Separator p c rest h f = f 0 c h
 few-taken (Broken n) p c rest h f = tt
 few-taken (Token k n v) p c rest h f = by (leb 1024 c) refl
   where
-    by : (b : Bool) → leb 1024 c ≡ b → Few c (pick b (refused 5 p) (also (record { kind = k; place = p; value = v }) (rest (n - 1) (c + 1))))
+    by : (b : Bool) → leb 1024 c ≡ b → Few c (pick b (refused refusal.many-tokens p) (also (record { kind = k; place = p; value = v }) (rest (n - 1) (c + 1))))
     by true e = tt
     by false e = few-also (record { kind = k; place = p; value = v }) c (rest (n - 1) (c + 1)) (f (n - 1) (c + 1) (omega (arith, leb-false 1024 c e)))
 
@@ -41,7 +42,7 @@ few-outcome : (source : List ℕ) → Few 0 (outcome source)
 unfolding outcome
 few-outcome source = by (leb (length source) 16384)
   where
-    by : (b : Bool) → Few 0 (pick b (scan source 0 0 0) (refused 1 0))
+    by : (b : Bool) → Few 0 (pick b (scan source 0 0 0) (refused refusal.long-source 0))
     by true = few-scan source 0 0 0 (omega arith)
     by false = tt
 

@@ -3,15 +3,17 @@
 use mathlib.Core.Path.{_≡_}
 use mathlib.Core.Bool.{Bool, true, false}
 use mathlib.Core.List.{List, List·Memᴰ}
-use Prim.Native.Nat.{ℕ, _+_, _*_, _<_, _≤_}
+use Prim.Native.Nat.{ℕ, _<_, _≤_}
 use lib.Dec.{eqb, ltb, leb}
 use lib.ListN.{length}
 use Rattle.word.specs.Choice.{pick}
+use Rattle.token.specs.Refusals as refusal
 use Rattle.token.specs.Tokens.{Entry}
 use Rattle.token.specs.Split.{split, AllTokens, Flaw, Starts}
 use Rattle.grammar.specs.Grammar.{Token, Program, text-program, well-formed}
 use Rattle.grammar.specs.First.{First}
 use Rattle.grammar.specs.Depth.{too-deep}
+use Rattle.program.specs.Layout.{table-room, code-room}
 use Rattle.names.specs.Complaints.{complaints}
 use Rattle.front.specs.Symbols.{place-of, text-of, symbols, unread-place}
 
@@ -43,37 +45,39 @@ pub record Misnamed (source : List ℕ) (n p : ℕ) : Type 0 where
 -- Limits and refusals: the table, by number and place
 pub data Deserves (source : List ℕ) (table code : ℕ) : ℕ → ℕ → Type 0 where
   -- 1 "source above 16,384 bytes": 0
-  long-source : 16384 < length source → Deserves source table code 1 0
+  long-source : 16384 < length source → Deserves source table code refusal.long-source 0
   -- 2 "broken token or byte that starts none": its first byte
-  broken-token : {p : ℕ} → Flaw (split source) 2 p → Deserves source table code 2 p
+  broken-token : {p : ℕ} → Flaw (split source) refusal.broken-token p → Deserves source table code refusal.broken-token p
   -- 3 "decimal above 2,147,483,647 or hex above FFFFFFFF": its first byte
-  large-number : {p : ℕ} → Flaw (split source) 3 p → Deserves source table code 3 p
+  large-number : {p : ℕ} → Flaw (split source) refusal.large-number p → Deserves source table code refusal.large-number p
   -- 4 "name above 32 bytes": its first byte
-  long-name : {p : ℕ} → Flaw (split source) 4 p → Deserves source table code 4 p
+  long-name : {p : ℕ} → Flaw (split source) refusal.long-name p → Deserves source table code refusal.long-name p
   -- 5 "more than 1,024 tokens, comments counted": first byte of token 1,025
-  many-tokens : {p : ℕ} → Starts (split source) 1024 p → Deserves source table code 5 p
+  many-tokens : {p : ℕ} → Starts (split source) 1024 p → Deserves source table code refusal.many-tokens p
   -- 13 "table shorter than 4 x tokens words": 0
-  short-table : {ts : List Entry} → HasTokens source ts → table < 4 * length ts → Deserves source table code 13 0
+  short-table : {ts : List Entry} → HasTokens source ts → table < table-room (length ts) → Deserves source table code refusal.short-table 0
   -- 14 "code buffer shorter than 48 x tokens + 256 bytes": 0
-  short-code : {ts : List Entry} → HasTokens source ts → code < 48 * length ts + 256 → Deserves source table code 14 0
+  short-code : {ts : List Entry} → HasTokens source ts → code < code-room (length ts) → Deserves source table code refusal.short-code 0
   -- 6 "grammar: first token that no program continues with": it, or the source length
-  ungrammatical : {p : ℕ} → Ungrammatical source p → Deserves source table code 6 p
+  ungrammatical : {p : ℕ} → Ungrammatical source p → Deserves source table code refusal.ungrammatical p
   -- 7 "depth of an expression, assigned element or process above 32": 0
-  deep-program : {ts : List Entry} {tree : Program} → HasTree source ts tree → too-deep tree ≡ true → Deserves source table code 7 0
+  deep-program : {ts : List Entry} {tree : Program} → HasTree source ts tree → too-deep tree ≡ true → Deserves source table code refusal.deep-program 0
   -- 8 "name not declared before": the name
-  not-declared : {p : ℕ} → Misnamed source 8 p → Deserves source table code 8 p
+  not-declared : {p : ℕ} → Misnamed source refusal.not-declared p → Deserves source table code refusal.not-declared p
   -- 9 "name declared twice": the second
-  declared-twice : {p : ℕ} → Misnamed source 9 p → Deserves source table code 9 p
+  declared-twice : {p : ℕ} → Misnamed source refusal.declared-twice p → Deserves source table code refusal.declared-twice p
   -- 10 "wrong kind": the name
-  wrong-kind : {p : ℕ} → Misnamed source 10 p → Deserves source table code 10 p
+  wrong-kind : {p : ℕ} → Misnamed source refusal.wrong-kind p → Deserves source table code refusal.wrong-kind p
   -- 11 "array length, read unsigned, not 1 to 8,192": the array's name
-  bad-length : {p : ℕ} → Misnamed source 11 p → Deserves source table code 11 p
+  bad-length : {p : ℕ} → Misnamed source refusal.bad-length p → Deserves source table code refusal.bad-length p
   -- 12 "more than 256 names, or data above 8,192 words": the name that passes it
-  too-much : {p : ℕ} → Misnamed source 12 p → Deserves source table code 12 p
+  too-much : {p : ℕ} → Misnamed source refusal.too-much p → Deserves source table code refusal.too-much p
 
 -- "1 comes first; then 2 to 5 ...; then 13, 14, 6, 7; then 8 to 12": which numbers are ranked together, and where
 abbrev pub rank : ℕ → ℕ
-rank n = pick (eqb n 1) 0 (pick (leb n 5) 1 (pick (eqb n 13) 2 (pick (eqb n 14) 3 (pick (eqb n 6) 4 (pick (eqb n 7) 5 6)))))
+rank n =
+    pick (eqb n refusal.long-source) 0 (pick (leb n refusal.many-tokens) 1 (pick (eqb n refusal.short-table) 2 (pick (eqb n refusal.short-code) 3 (pick (eqb n refusal.ungrammatical) 4
+    (pick (eqb n refusal.deep-program) 5 6)))))
 
 -- m at q goes before n at p: by rank, then "by place, smaller number first at one place"
 abbrev pub goes-before : ℕ → ℕ → ℕ → ℕ → Bool
@@ -86,6 +90,6 @@ pub record FirstDeserved (source : List ℕ) (table code n p : ℕ) : Type 0 whe
 
 -- a refusal's number is one of 1 to 14, its place a byte of the source or its length
 pub record Numbered (source : List ℕ) (n p : ℕ) : Type 0 where
-  pub low : 1 ≤ n
-  pub high : n ≤ 14
+  pub low : refusal.long-source ≤ n
+  pub high : n ≤ refusal.short-code
   pub inside : p ≤ length source

@@ -2,12 +2,13 @@
 use mathlib.Core.Path.{_≡_, refl, ap, _∙_}
 use mathlib.Core.Bool.{Bool, true, false}
 use mathlib.Core.List.{List}
-use Prim.Native.Nat.{ℕ, _+_, _*_}
+use Prim.Native.Nat.{ℕ}
 use native.Mathlib.Omega.{arith}
 use lib.Dec.{ltb}
 use lib.ListN.{length}
 use borrow.Author.Tests.{ltb-false, le-ltb}
 use Rattle.word.specs.Choice.{pick}
+use Rattle.token.specs.Refusals as refusal
 use Rattle.token.specs.Tokens as token
 use Rattle.token.specs.Tokens.{Entry}
 use Rattle.grammar.specs.Grammar as grammar
@@ -15,6 +16,7 @@ use Rattle.grammar.specs.Automaton as automaton
 use Rattle.grammar.specs.Automaton.{reads}
 use Rattle.grammar.specs.Exact.{accepts, accepted-text}
 use Rattle.grammar.specs.Depth.{too-deep}
+use Rattle.program.specs.Layout.{table-room, code-room}
 use Rattle.program.specs.Tree.{Program}
 use Rattle.names.specs.Complaints as names
 use Rattle.names.specs.Complaints.{complaints, least}
@@ -30,7 +32,7 @@ pub accepts-X : (source : List ℕ) (ts : List Entry) (p : grammar.Program) (tab
 unfolding front named least
 accepts-X source ts p table code x r =
     ap (tokened source table code) (x .tokens)
-    ∙ rw (le-ltb table (4 * length ts) (r .rows), le-ltb code (48 * length ts + 256) (r .image))
+    ∙ rw (le-ltb table (table-room (length ts)) (r .rows), le-ltb code (code-room (length ts)) (r .image))
     (ap (parsed source ts) (ap reads (x .grammatical) ∙ accepts p (x .proper))
     ∙ rw (x .shallow, x .nameable))
 
@@ -66,21 +68,24 @@ accepted-is-X source table code n q h = by-tokens (token.outcome source) refl h
         }
 
     by-depth : (ts : List Entry) (p : grammar.Program) → token.outcome source ≡ token.read ts → Room (length ts) table code → reads (symbols ts 0) ≡ automaton.accepted p
-        → (b : Bool) → too-deep p ≡ b → pick b (refused 7 0) (judged (least (complaints (text-of source ts) (place-of ts) p)) (length ts) (resolve (text-of source ts) p)) ≡ accepted n q → Accepted source table code n q
+        → (b : Bool) → too-deep p ≡ b
+        → pick b (refused refusal.deep-program 0) (judged (least (complaints (text-of source ts) (place-of ts) p)) (length ts) (resolve (text-of source ts) p)) ≡ accepted n q
+        → Accepted source table code n q
     by-depth ts p e r g true d h = not-accepted _ _ n q h
     by-depth ts p e r g false d h = by-verdict ts p e r g d (least (complaints (text-of source ts) (place-of ts) p)) refl h
 
-    by-reading : (ts : List Entry) → token.outcome source ≡ token.read ts → Room (length ts) table code → (v : automaton.Reading) → reads (symbols ts 0) ≡ v → parsed source ts v ≡ accepted n q → Accepted source table code n q
+    by-reading : (ts : List Entry) → token.outcome source ≡ token.read ts → Room (length ts) table code → (v : automaton.Reading) → reads (symbols ts 0) ≡ v
+        → parsed source ts v ≡ accepted n q → Accepted source table code n q
     by-reading ts e r (automaton.accepted p) g h = by-depth ts p e r g (too-deep p) refl h
     by-reading ts e r (automaton.refused u) g h = not-accepted _ _ n q h
 
-    by-room : (ts : List Entry) → token.outcome source ≡ token.read ts → (a : Bool) → ltb table (4 * length ts) ≡ a → (b : Bool) → ltb code (48 * length ts + 256) ≡ b
-        → pick a (refused 13 0) (pick b (refused 14 0) (parsed source ts (reads (symbols ts 0)))) ≡ accepted n q → Accepted source table code n q
+    by-room : (ts : List Entry) → token.outcome source ≡ token.read ts → (a : Bool) → ltb table (table-room (length ts)) ≡ a → (b : Bool) → ltb code (code-room (length ts)) ≡ b
+        → pick a (refused refusal.short-table 0) (pick b (refused refusal.short-code 0) (parsed source ts (reads (symbols ts 0)))) ≡ accepted n q → Accepted source table code n q
     by-room ts e true f b g h = not-accepted _ _ n q h
     by-room ts e false f true g h = not-accepted _ _ n q h
     by-room ts e false f false g h =
-        by-reading ts e (record { rows = ltb-false table (4 * length ts) f; image = ltb-false code (48 * length ts + 256) g }) (reads (symbols ts 0)) refl h
+        by-reading ts e (record { rows = ltb-false table (table-room (length ts)) f; image = ltb-false code (code-room (length ts)) g }) (reads (symbols ts 0)) refl h
 
     by-tokens : (o : token.Outcome) → token.outcome source ≡ o → tokened source table code o ≡ accepted n q → Accepted source table code n q
     by-tokens (token.refused k l) e h = not-accepted _ _ n q h
-    by-tokens (token.read ts) e h = by-room ts e (ltb table (4 * length ts)) refl (ltb code (48 * length ts + 256)) refl h
+    by-tokens (token.read ts) e h = by-room ts e (ltb table (table-room (length ts))) refl (ltb code (code-room (length ts))) refl h

@@ -1,15 +1,17 @@
 -- What a source comes to: the resolved program, or one refusal, in document 01's order. Definitions; rests on tokens, grammar and names.
 use mathlib.Core.List.{List}
-use Prim.Native.Nat.{ℕ, _+_, _*_}
+use Prim.Native.Nat.{ℕ}
 use lib.Dec.{ltb}
 use lib.ListN.{length}
 use Rattle.word.specs.Choice.{pick}
+use Rattle.token.specs.Refusals as refusal
 use Rattle.token.specs.Tokens as token
 use Rattle.token.specs.Tokens.{Entry}
 use Rattle.grammar.specs.Grammar as grammar
 use Rattle.grammar.specs.Automaton as automaton
 use Rattle.grammar.specs.Automaton.{reads}
 use Rattle.grammar.specs.Depth.{too-deep}
+use Rattle.program.specs.Layout.{table-room, code-room}
 use Rattle.program.specs.Tree.{Program}
 use Rattle.names.specs.Complaints as names
 use Rattle.names.specs.Complaints.{complaints, least}
@@ -31,20 +33,20 @@ judged names.fine n p = accepted n p
 -- "7 depth of an expression, assigned element or process above 32", place 0
 unfoldable pub named : List ℕ → List Entry → grammar.Program → Outcome
 named source ts p =
-    pick (too-deep p) (refused 7 0)
+    pick (too-deep p) (refused refusal.deep-program 0)
     (judged (least (complaints (text-of source ts) (place-of ts) p)) (length ts) (resolve (text-of source ts) p))
 
 -- "6 grammar: first token that no program continues with"
 abbrev pub parsed : List ℕ → List Entry → automaton.Reading → Outcome
 parsed source ts (automaton.accepted p) = named source ts p
-parsed source ts (automaton.refused unread) = refused 6 (unread-place ts (length unread) (length source))
+parsed source ts (automaton.refused unread) = refused refusal.ungrammatical (unread-place ts (length unread) (length source))
 
 -- "13 table shorter than 4 x tokens words"; "14 code buffer shorter than 48 x tokens + 256 bytes": places 0
 abbrev pub tokened : List ℕ → ℕ → ℕ → token.Outcome → Outcome
 tokened source table code (token.refused n p) = refused n p
 tokened source table code (token.read ts) =
-    pick (ltb table (4 * length ts)) (refused 13 0)
-    (pick (ltb code (48 * length ts + 256)) (refused 14 0)
+    pick (ltb table (table-room (length ts))) (refused refusal.short-table 0)
+    (pick (ltb code (code-room (length ts))) (refused refusal.short-code 0)
     (parsed source ts (reads (symbols ts 0))))
 
 -- a source, with a table of so many words and a code buffer of so many bytes

@@ -2,11 +2,12 @@
 use mathlib.Core.Path.{_≡_}
 use mathlib.Core.Bool.{false}
 use mathlib.Core.List.{List, []}
-use Prim.Native.Nat.{ℕ, _+_, _*_, _≤_}
+use Prim.Native.Nat.{ℕ, _≤_}
 use Rattle.token.specs.Tokens as token
 use Rattle.token.specs.Tokens.{Entry}
 use Rattle.grammar.specs.Grammar.{Program, text-program, well-formed}
 use Rattle.grammar.specs.Depth.{too-deep}
+use Rattle.program.specs.Layout.{table-room, code-room}
 use Rattle.names.specs.Complaints.{complaints}
 use Rattle.front.specs.Symbols.{place-of, text-of, symbols}
 
@@ -20,5 +21,5 @@ pub record IsX (source : List ℕ) (ts : List Entry) (p : Program) : Type 0 wher
 
 -- room for so many tokens: "4 x tokens words", "48 x tokens + 256 bytes"
 pub record Room (tokens table code : ℕ) : Type 0 where
-  pub rows : 4 * tokens ≤ table
-  pub image : 48 * tokens + 256 ≤ code
+  pub rows : table-room tokens ≤ table
+  pub image : code-room tokens ≤ code

@@ -3,13 +3,14 @@
 use mathlib.Core.Path.{_≡_, refl, sym, ap, subst, _∙_}
 use mathlib.Core.Bool.{Bool, true, false}
 use mathlib.Core.List.{List, List·Memᴰ, List·Memᴰ·not-nil}
-use Prim.Native.Nat.{ℕ, zero, suc, _+_, _*_, _≤_, _<_}
+use Prim.Native.Nat.{ℕ, zero, suc, _≤_, _<_}
 use native.Mathlib.Omega.{arith}
 use lib.Dec.{eqb, ltb, leb}
 use lib.ListN.{length}
 use borrow.Author.Tests.{eq-eqb, ne-eqb, le-ltb, eqb-true, eqb-false, ltb-true, ltb-false, leb-true, leb-false, lt-leb, le-leb}
 use Rattle.word.specs.Choice.{pick}
 use Rattle.word.specs.ChoiceLaws.{by-test}
+use Rattle.token.specs.Refusals as refusal
 use Rattle.token.specs.Tokens as token
 use Rattle.token.specs.Tokens.{Entry}
 use Rattle.token.specs.Split.{split, Flaw, Starts}
@@ -24,6 +25,7 @@ use Rattle.grammar.specs.Automaton.{reads}
 use Rattle.grammar.specs.First.{First}
 use Rattle.grammar.specs.Exact.{accepts, accepted-text, refused-first, first-no-program, one-first}
 use Rattle.grammar.specs.Depth.{too-deep}
+use Rattle.program.specs.Layout.{table-room, code-room}
 use Rattle.program.specs.Tree as tree
 use Rattle.names.specs.Complaints as names
 use Rattle.names.specs.Complaints.{Complaint, complaints, least}
@@ -31,7 +33,8 @@ use Rattle.names.specs.Least.{least-none, least-one}
 use Rattle.names.specs.Numbered.{Within, Judged, judged-within}
 use Rattle.names.specs.Resolve.{resolve}
 use Rattle.front.specs.Symbols.{place-of, text-of, symbols, unread-place}
-use Rattle.front.specs.Deserved.{HasTokens, HasTree, Ungrammatical, Misnamed, Deserves, long-source, broken-token, large-number, long-name, many-tokens, short-table, short-code, ungrammatical, deep-program, not-declared, declared-twice, wrong-kind, bad-length, too-much, rank, goes-before, FirstDeserved}
+use Rattle.front.specs.Deserved.{HasTokens, HasTree, Ungrammatical, Misnamed, Deserves, long-source, broken-token, large-number, long-name, many-tokens, short-table, short-code}
+use Rattle.front.specs.Deserved.{ungrammatical, deep-program, not-declared, declared-twice, wrong-kind, bad-length, too-much, rank, goes-before, FirstDeserved}
 use Rattle.front.specs.Front.{Outcome, refused, accepted, judged, named, parsed, tokened, front}
 use Rattle.front.specs.Refused.{places-inside}
 
@@ -57,12 +60,12 @@ at-number P Q n k h f g = by-test (λ _. Q n) (eqb n k) (λ e. let z = eqb-true 
 module _ (source : List ℕ) (table code : ℕ) where
   -- m at q is deserved, for the reason that its rank has
   abbrev By : ℕ → ℕ → ℕ → Type 0
-  By zero m q = (m ≡ 1) × (q ≡ 0) × (16384 < length source)
+  By zero m q = (m ≡ refusal.long-source) × (q ≡ 0) × (16384 < length source)
   By (suc zero) m q = lexical.Deserves 0 (split source) m q
-  By (suc (suc zero)) m q = (m ≡ 13) × (q ≡ 0) × ((ts : List Entry) × HasTokens source ts × (table < 4 * length ts))
-  By (suc (suc (suc zero))) m q = (m ≡ 14) × (q ≡ 0) × ((ts : List Entry) × HasTokens source ts × (code < 48 * length ts + 256))
-  By (suc (suc (suc (suc zero)))) m q = (m ≡ 6) × Ungrammatical source q
-  By (suc (suc (suc (suc (suc zero))))) m q = (m ≡ 7) × (q ≡ 0) × ((ts : List Entry) × (p : Program) × HasTree source ts p × (too-deep p ≡ true))
+  By (suc (suc zero)) m q = (m ≡ refusal.short-table) × (q ≡ 0) × ((ts : List Entry) × HasTokens source ts × (table < table-room (length ts)))
+  By (suc (suc (suc zero))) m q = (m ≡ refusal.short-code) × (q ≡ 0) × ((ts : List Entry) × HasTokens source ts × (code < code-room (length ts)))
+  By (suc (suc (suc (suc zero)))) m q = (m ≡ refusal.ungrammatical) × Ungrammatical source q
+  By (suc (suc (suc (suc (suc zero))))) m q = (m ≡ refusal.deep-program) × (q ≡ 0) × ((ts : List Entry) × (p : Program) × HasTree source ts p × (too-deep p ≡ true))
   By (suc (suc (suc (suc (suc (suc r)))))) m q = Misnamed source m q
 
   sorted : (m q : ℕ) → Deserves source table code m q → By (rank m) m q
@@ -117,24 +120,32 @@ module _ (source : List ℕ) (table code : ℕ) where
 
   rank-most : (n : ℕ) → rank n < 7
   rank-most n =
-      pick-below (eqb n 1) 0 _ 7 (omega arith) (pick-below (leb n 5) 1 _ 7 (omega arith) (pick-below (eqb n 13) 2 _ 7 (omega arith)
-      (pick-below (eqb n 14) 3 _ 7 (omega arith) (pick-below (eqb n 6) 4 _ 7 (omega arith) (pick-below (eqb n 7) 5 6 7 (omega arith) (omega arith))))))
+      pick-below (eqb n refusal.long-source) 0 _ 7 (omega arith) (pick-below (leb n refusal.many-tokens) 1 _ 7 (omega arith) (pick-below (eqb n refusal.short-table) 2 _ 7 (omega arith)
+      (pick-below (eqb n refusal.short-code) 3 _ 7 (omega arith)
+      (pick-below (eqb n refusal.ungrammatical) 4 _ 7 (omega arith) (pick-below (eqb n refusal.deep-program) 5 6 7 (omega arith) (omega arith))))))
 
   all-spared : Spared 7 → (m q : ℕ) → Deserves source table code m q → ⊥
   all-spared s m q d = s (rank m) (rank-most m) m q (sorted m q d)
 
   -- ── 8 to 12 ──
 
-  names-rank : (n : ℕ) → 8 ≤ n → n ≤ 12 → rank n ≡ 6
-  names-rank n l h = rw (ne-eqb n 1 (omega arith), lt-leb n 5 (omega arith), ne-eqb n 13 (omega arith), ne-eqb n 14 (omega arith), ne-eqb n 6 (omega arith), ne-eqb n 7 (omega arith))
+  names-rank : (n : ℕ) → refusal.not-declared ≤ n → n ≤ refusal.too-much → rank n ≡ 6
+  names-rank n l h = rw (
+    ne-eqb n refusal.long-source (omega arith),
+    lt-leb n refusal.many-tokens (omega arith),
+    ne-eqb n refusal.short-table (omega arith),
+    ne-eqb n refusal.short-code (omega arith),
+    ne-eqb n refusal.ungrammatical (omega arith),
+    ne-eqb n refusal.deep-program (omega arith),
+  )
 
-  names-deserve : (n p : ℕ) → 8 ≤ n → n ≤ 12 → Misnamed source n p → Deserves source table code n p
+  names-deserve : (n p : ℕ) → refusal.not-declared ≤ n → n ≤ refusal.too-much → Misnamed source n p → Deserves source table code n p
   names-deserve n p l h c =
-      one 8 not-declared
-      (λ a. one 9 declared-twice
-      (λ b. one 10 wrong-kind
-      (λ d. one 11 bad-length
-      (λ e. one 12 too-much
+      one refusal.not-declared not-declared
+      (λ a. one refusal.declared-twice declared-twice
+      (λ b. one refusal.wrong-kind wrong-kind
+      (λ d. one refusal.bad-length bad-length
+      (λ e. one refusal.too-much too-much
       (λ f. absurd (omega arith))))))
     where
       one : (k : ℕ) → (Misnamed source k p → Deserves source table code k p) → ((n ≡ k → ⊥) → Deserves source table code n p) → Deserves source table code n p
@@ -187,8 +198,8 @@ module _ (source : List ℕ) (table code : ℕ) where
       right-named : Spared 4 → Placed (length source) 0 ts → Right (named source ts p)
       unfolding named
       right-named s l =
-          by-test (λ (b : Bool). too-deep p ≡ b → Right (pick b (refused 7 0) (judged (least cs) (length ts) (resolve (text-of source ts) p)))) (too-deep p)
-          (λ _ e. settled 7 0 5 refl (not-six s) (λ m q b. alone 7 m q (b .0) (b .1)) (deep-program g e))
+          by-test (λ (b : Bool). too-deep p ≡ b → Right (pick b (refused refusal.deep-program 0) (judged (least cs) (length ts) (resolve (text-of source ts) p)))) (too-deep p)
+          (λ _ e. settled refusal.deep-program 0 5 refl (not-six s) (λ m q b. alone refusal.deep-program m q (b .0) (b .1)) (deep-program g e))
           (λ _ e. right-judged (spared-more 5 (not-six s) (λ m q b. not-both (b .2 .1) (b .2 .0) (b .2 .2) (b .2 .3) e)) l (least cs) refl)
           refl
 
@@ -199,9 +210,10 @@ module _ (source : List ℕ) (table code : ℕ) where
     right-parsed s l (automaton.refused u) e =
         let f = refused-first (symbols ts 0) u e in
         let place = unread-place ts (length u) (length source) in
-        settled 6 place 4 refl s (λ m q b. same-place place m q (b .0) (here u f q (b .1))) (ungrammatical (record { ts = ts; unread = u; tokens = t; first-bad = f; place = refl }))
+        settled refusal.ungrammatical place 4 refl s (λ m q b. same-place place m q (b .0) (here u f q (b .1)))
+        (ungrammatical (record { ts = ts; unread = u; tokens = t; first-bad = f; place = refl }))
       where
-        same-place : (p m q : ℕ) → m ≡ 6 → q ≡ p → NotBefore 6 p m q
+        same-place : (p m q : ℕ) → m ≡ refusal.ungrammatical → q ≡ p → NotBefore refusal.ungrammatical p m q
         same-place p m q a b = record { place = omega arith; number = λ _. omega arith }
 
         here : (u : List Token) → First (symbols ts 0) u → (q : ℕ) → Ungrammatical source q → q ≡ unread-place ts (length u) (length source)
@@ -212,41 +224,43 @@ module _ (source : List ℕ) (table code : ℕ) where
 
     right-read : Spared 2 → Placed (length source) 0 ts → Right (tokened source table code (token.read ts))
     right-read s l =
-        by-test (λ (a : Bool). Right (pick a (refused 13 0) (pick (ltb code (48 * length ts + 256)) (refused 14 0) (parsed source ts (reads (symbols ts 0)))))) (ltb table (4 * length ts))
-        (λ e. settled 13 0 2 refl s (λ m q b. alone 13 m q (b .0) (b .1)) (short-table t (ltb-true table (4 * length ts) e)))
+        by-test
+        (λ (a : Bool). Right (pick a (refused refusal.short-table 0) (pick (ltb code (code-room (length ts))) (refused refusal.short-code 0) (parsed source ts (reads (symbols ts 0))))))
+        (ltb table (table-room (length ts)))
+        (λ e. settled refusal.short-table 0 2 refl s (λ m q b. alone refusal.short-table m q (b .0) (b .1)) (short-table t (ltb-true table (table-room (length ts)) e)))
         (λ e.
-        by-test (λ (a : Bool). Right (pick a (refused 14 0) (parsed source ts (reads (symbols ts 0))))) (ltb code (48 * length ts + 256))
-        (λ f. settled 14 0 3 refl (room e) (λ m q b. alone 14 m q (b .0) (b .1)) (short-code t (ltb-true code (48 * length ts + 256) f)))
-        (λ f. right-parsed (code-room e f) l (reads (symbols ts 0)) refl))
+        by-test (λ (a : Bool). Right (pick a (refused refusal.short-code 0) (parsed source ts (reads (symbols ts 0))))) (ltb code (code-room (length ts)))
+        (λ f. settled refusal.short-code 0 3 refl (room e) (λ m q b. alone refusal.short-code m q (b .0) (b .1)) (short-code t (ltb-true code (code-room (length ts)) f)))
+        (λ f. right-parsed (both-room e f) l (reads (symbols ts 0)) refl))
       where
-        room : ltb table (4 * length ts) ≡ false → Spared 3
+        room : ltb table (table-room (length ts)) ≡ false → Spared 3
         room e =
             spared-more 2 s
-            (λ m q b. let x = b .2 in let y : table < 4 * length ts = rw (one-list (x .1) t) at (x .2) in omega (arith, ltb-false table (4 * length ts) e))
+            (λ m q b. let x = b .2 in let y : table < table-room (length ts) = rw (one-list (x .1) t) at (x .2) in omega (arith, ltb-false table (table-room (length ts)) e))
 
-        code-room : ltb table (4 * length ts) ≡ false → ltb code (48 * length ts + 256) ≡ false → Spared 4
-        code-room e f =
+        both-room : ltb table (table-room (length ts)) ≡ false → ltb code (code-room (length ts)) ≡ false → Spared 4
+        both-room e f =
             spared-more 3 (room e)
-            (λ m q b. let x = b .2 in let y : code < 48 * length ts + 256 = rw (one-list (x .1) t) at (x .2) in omega (arith, ltb-false code (48 * length ts + 256) f))
+            (λ m q b. let x = b .2 in let y : code < code-room (length ts) = rw (one-list (x .1) t) at (x .2) in omega (arith, ltb-false code (code-room (length ts)) f))
 
   -- ── 2 to 5, and 1 ──
 
   none-spared : Spared 0
   none-spared r l = absurd (omega arith)
 
-  lexical-rank : (n : ℕ) → 2 ≤ n → n ≤ 5 → rank n ≡ 1
-  lexical-rank n l h = rw (ne-eqb n 1 (omega arith), le-leb n 5 (omega arith))
+  lexical-rank : (n : ℕ) → refusal.broken-token ≤ n → n ≤ refusal.many-tokens → rank n ≡ 1
+  lexical-rank n l h = rw (ne-eqb n refusal.long-source (omega arith), le-leb n refusal.many-tokens (omega arith))
 
   lexical-deserve : (n p : ℕ) → lexical.Deserves 0 (split source) n p → Deserves source table code n p
   lexical-deserve n p (by-token f l) =
       let h = flaw-most source f in
-      one 2 broken-token (λ a. one 3 large-number (λ b. one 4 long-name (λ d. absurd (omega arith))))
+      one refusal.broken-token broken-token (λ a. one refusal.large-number large-number (λ b. one refusal.long-name long-name (λ d. absurd (omega arith))))
     where
       one : (k : ℕ) → (Flaw (split source) k p → Deserves source table code k p) → ((n ≡ k → ⊥) → Deserves source table code n p) → Deserves source table code n p
       one k = at-number (λ i. Flaw (split source) i p) (λ i. Deserves source table code i p) n k f
   lexical-deserve n p (by-count {i = i} s e) = many-tokens (subst (λ (k : ℕ). Starts (split source) k p) (omega (arith, e)) s)
 
-  lexical-range : (n p : ℕ) → lexical.Deserves 0 (split source) n p → (2 ≤ n) × (n ≤ 5)
+  lexical-range : (n p : ℕ) → lexical.Deserves 0 (split source) n p → (refusal.broken-token ≤ n) × (n ≤ refusal.many-tokens)
   lexical-range n p (by-token f l) = (l, omega (arith, flaw-most source f))
   lexical-range n p (by-count s e) = (omega arith, omega arith)
 
@@ -264,7 +278,8 @@ module _ (source : List ℕ) (table code : ℕ) where
       (λ _ e. let h = leb-true (length source) 16384 e in
       let sound = rw (outcome-short source h) at (outcome-sound source) in
       rw (outcome-short source h) (right-scanned (spared-more 0 none-spared (λ m q b. omega (arith, b .2))) (token.scan source 0 0 0) sound (agree-split source)))
-      (λ _ e. let h = leb-false (length source) 16384 e in rw (outcome-long source h) (settled 1 0 0 refl none-spared (λ m q b. alone 1 m q (b .0) (b .1)) (long-source h)))
+      (λ _ e. let h = leb-false (length source) 16384 e in
+      rw (outcome-long source h) (settled refusal.long-source 0 0 refl none-spared (λ m q b. alone refusal.long-source m q (b .0) (b .1)) (long-source h)))
       refl
 
 -- ── exactly ──

@@ -2,7 +2,7 @@
 use mathlib.Core.Path.{_≡_, refl, ap, subst}
 use mathlib.Core.Bool.{Bool, true, false}
 use mathlib.Core.List.{List, [], _∷_}
-use Prim.Native.Nat.{ℕ, zero, suc, _+_, _*_, _<_, _≤_, max}
+use Prim.Native.Nat.{ℕ, zero, suc, _+_, _<_, _≤_, max}
 use native.Mathlib.Omega.{arith}
 use lib.Dec.{eqb, ltb, leb}
 use lib.ListN.{length}
@@ -10,6 +10,7 @@ use borrow.Author.Tests.{eqb-true, ltb-false}
 use Rattle.word.specs.Choice.{pick}
 use Rattle.word.specs.ChoiceLaws.{by-test}
 use Rattle.spelling.specs.Kinds as kind
+use Rattle.token.specs.Refusals as refusals
 use Rattle.token.specs.Tokens as token
 use Rattle.token.specs.Tokens.{Entry}
 use Rattle.token.specs.SourceLaws as source-laws
@@ -22,6 +23,7 @@ use Rattle.grammar.specs.Automaton.{reads}
 use Rattle.program.specs.Tree.{Program}
 use Rattle.program.specs.Sound.{Sound}
 use Rattle.grammar.specs.Depth.{depth, deepest, depth-limit, too-deep}
+use Rattle.program.specs.Layout.{table-room, code-room}
 use Rattle.names.specs.Complaints as names
 use Rattle.names.specs.Complaints.{complaints, Verdict, fine, least}
 use Rattle.names.specs.Resolve.{resolve}
@@ -143,9 +145,12 @@ judged-numbered source (names.refused c) n q h = record { low = omega (arith, h 
 named-numbered : (source : List ℕ) (ts : List Entry) (p : grammar.Program) → Placed (length source) 0 ts → Answered source (named source ts p)
 unfolding named
 named-numbered source ts p h =
-    by-test (λ (b : Bool). Answered source (pick b (refused 7 0) (judged (least (complaints (text-of source ts) (place-of ts) p)) (length ts) (resolve (text-of source ts) p)))) (too-deep p)
+    by-test (λ (b : Bool).
+    Answered source (pick b (refused refusals.deep-program 0) (judged (least (complaints (text-of source ts) (place-of ts) p)) (length ts) (resolve (text-of source ts) p))))
+    (too-deep p)
     (λ e. record { low = omega arith; high = omega arith; inside = omega arith })
-    (λ e. judged-numbered source (least (complaints (text-of source ts) (place-of ts) p)) (length ts) _ (judged-within (text-of source ts) (place-of ts) (length source) (λ k. places-inside (length source) 0 ts k h) p))
+    (λ e. judged-numbered source (least (complaints (text-of source ts) (place-of ts) p)) (length ts) _
+    (judged-within (text-of source ts) (place-of ts) (length source) (λ k. places-inside (length source) 0 ts k h) p))
 
 parsed-numbered : (source : List ℕ) (ts : List Entry) (r : automaton.Reading) → Placed (length source) 0 ts → Answered source (parsed source ts r)
 parsed-numbered source ts (automaton.accepted p) h = named-numbered source ts p h
@@ -154,10 +159,12 @@ parsed-numbered source ts (automaton.refused u) h = record { low = omega arith; 
 tokened-numbered : (source : List ℕ) (table code : ℕ) (o : token.Outcome) → source-laws.Sound (length source) 0 o → Answered source (tokened source table code o)
 tokened-numbered source table code (token.refused n p) h = record { low = h .0; high = omega (arith, h .1); inside = h .2 }
 tokened-numbered source table code (token.read ts) h =
-    by-test (λ (b : Bool). Answered source (pick b (refused 13 0) (pick (ltb code (48 * length ts + 256)) (refused 14 0) (parsed source ts (reads (symbols ts 0)))))) (ltb table (4 * length ts))
+    by-test (λ (b : Bool). Answered source
+    (pick b (refused refusals.short-table 0) (pick (ltb code (code-room (length ts))) (refused refusals.short-code 0) (parsed source ts (reads (symbols ts 0))))))
+    (ltb table (table-room (length ts)))
     (λ e. record { low = omega arith; high = omega arith; inside = omega arith })
     (λ e.
-    by-test (λ (b : Bool). Answered source (pick b (refused 14 0) (parsed source ts (reads (symbols ts 0))))) (ltb code (48 * length ts + 256))
+    by-test (λ (b : Bool). Answered source (pick b (refused refusals.short-code 0) (parsed source ts (reads (symbols ts 0))))) (ltb code (code-room (length ts)))
     (λ e. record { low = omega arith; high = omega arith; inside = omega arith }) (λ e. parsed-numbered source ts (reads (symbols ts 0)) h))
 
 pub refusal : (source : List ℕ) (table code n at : ℕ) → front source table code ≡ refused n at → Numbered source n at

@@ -9,6 +9,8 @@ use lib.Seq.{sets, sets-eq, length-sets, take-at}
 use lib.Dec.{ltb}
 use borrow.Author.Tests.{ltb-true, ltb-false}
 use Rattle.word.specs.ChoiceLaws.{by-test}
+use Rattle.program.specs.Layout.{row-words}
+use Rattle.program.specs.Layout as layout
 use Rattle.program.specs.Tree.{Declaration, var, array, words-of, data-words, Program}
 use Rattle.program.specs.Core.{constant, variable, element, monadic, diadic, skip, stop, assign, assign-element, sequence, conditional, loop, core-process}
 use Rattle.program.specs.Core as core
@@ -51,10 +53,10 @@ module _ {t : List ℕ} where
 -- ── declarations ──
 declaration-names : (t : List ℕ) (d : Declaration) (n k : ℕ) → Holds t n (row-of d k) → Names t n
 unfolding Names
-declaration-names t var n k h = let e : word t n 0 ≡ 1 = h .at 0 (omega arith) in rw e tt
-declaration-names t (array m) n k h = let e : word t n 0 ≡ 2 = h .at 0 (omega arith) in rw e tt
+declaration-names t var n k h = let e : word t n 0 ≡ layout.var = h .at 0 (omega arith) in rw e tt
+declaration-names t (array m) n k h = let e : word t n 0 ≡ layout.array = h .at 0 (omega arith) in rw e tt
 
-length-row-of : (d : Declaration) (k : ℕ) → length (row-of d k) ≡ 4 * 1
+length-row-of : (d : Declaration) (k : ℕ) → length (row-of d k) ≡ row-words * 1
 length-row-of var k = refl
 length-row-of (array n) k = refl
 
@@ -75,38 +77,38 @@ module _ (t : List ℕ) (ds : List Declaration) (holds : Holds t 0 (declared-row
       rw e (record { earlier = omega (arith, declared-row q); offset = omega (arith, declared-inside q, rw a at w) })
 
   -- ── expressions ──
-  expression-written : (e : core.Expression) (n : ℕ) → length ds ≤ n → SoundExpression ds e → Holds t n (rows e n) → Written 3 7 t n (n + count e - 1)
+  expression-written : (e : core.Expression) (n : ℕ) → length ds ≤ n → SoundExpression ds e → Holds t n (rows e n) → Written layout.number layout.diadic t n (n + count e - 1)
   unfolding rows count Names
   expression-written (constant w) n l s h =
       let r : n + 1 - 1 ≡ n = omega arith in
-      let k : word t n 0 ≡ 3 = h .at 0 (omega arith) in
+      let k : word t n 0 ≡ layout.number = h .at 0 (omega arith) in
       rw r (own k (omega arith) (omega arith) (rw k tt))
   expression-written (variable v) n l s h =
       let r : n + 1 - 1 ≡ n = omega arith in
-      let k : word t n 0 ≡ 4 = h .at 0 (omega arith) in
+      let k : word t n 0 ≡ layout.variable = h .at 0 (omega arith) in
       rw r (own k (omega arith) (omega arith) (rw k (declared-at l s (h .at 1 (omega arith)))))
   expression-written (element a e) n l s h =
       let m = n + count e in
-      let last = row 5 (a .row) (m - 1) 0 in
+      let last = row layout.element (a .row) (m - 1) 0 in
       let r : n + (count e + 1) - 1 ≡ m = omega arith in
       let z = some-rows e in
       let g = behind (rows e n) last (count e) (length-rows e n) h in
       let x = expression-written e n l (s .1) (front (rows e n) last h) in
-      let k : word t m 0 ≡ 5 = g .at 0 (omega arith) in
+      let k : word t m 0 ≡ layout.element = g .at 0 (omega arith) in
       rw r (after x (omega arith) (own k (omega arith) (omega arith)
       (rw k (declared-at (omega arith) (s .0) (g .at 1 (omega arith)), part x (omega arith) (g .at 2 (omega arith))))))
   expression-written (monadic o e) n l s h =
       let m = n + count e in
-      let last = row 6 (monadic-number o) (m - 1) 0 in
+      let last = row layout.monadic (monadic-number o) (m - 1) 0 in
       let r : n + (count e + 1) - 1 ≡ m = omega arith in
       let z = some-rows e in
       let g = behind (rows e n) last (count e) (length-rows e n) h in
       let x = expression-written e n l s (front (rows e n) last h) in
-      let k : word t m 0 ≡ 6 = g .at 0 (omega arith) in
+      let k : word t m 0 ≡ layout.monadic = g .at 0 (omega arith) in
       rw r (after x (omega arith) (own k (omega arith) (omega arith) (rw k (part x (omega arith) (g .at 2 (omega arith))))))
   expression-written (diadic o e f) n l s h =
       let m = n + count e + count f in
-      let last = row 7 (diadic-number o) (n + count e - 1) (m - 1) in
+      let last = row layout.diadic (diadic-number o) (n + count e - 1) (m - 1) in
       let r : n + (count e + count f + 1) - 1 ≡ m = omega arith in
       let y = some-rows e in
       let z = some-rows f in
@@ -114,34 +116,34 @@ module _ (t : List ℕ) (ds : List Declaration) (holds : Holds t 0 (declared-row
       let g = behind (rows f (n + count e)) last (count f) (length-rows f (n + count e)) i in
       let x = expression-written e n l (s .0) (front (rows e n) (rows f (n + count e) ++ last) h) in
       let x′ = expression-written f (n + count e) (omega arith) (s .1) (front (rows f (n + count e)) last i) in
-      let k : word t m 0 ≡ 7 = g .at 0 (omega arith) in
+      let k : word t m 0 ≡ layout.diadic = g .at 0 (omega arith) in
       rw r (after x (omega arith) (after x′ (omega arith) (own k (omega arith) (omega arith)
       (rw k (part x (omega arith) (g .at 2 (omega arith)), part x′ (omega arith) (g .at 3 (omega arith)))))))
 
   -- ── processes ──
-  process-written : (p : core.Process) (n : ℕ) → length ds ≤ n → SoundProcess ds p → Holds t n (rows-process p n) → Written 8 14 t n (n + count-process p - 1)
+  process-written : (p : core.Process) (n : ℕ) → length ds ≤ n → SoundProcess ds p → Holds t n (rows-process p n) → Written layout.skip layout.while t n (n + count-process p - 1)
   unfolding rows-process count-process Names
   process-written skip n l s h =
       let r : n + 1 - 1 ≡ n = omega arith in
-      let k : word t n 0 ≡ 8 = h .at 0 (omega arith) in
+      let k : word t n 0 ≡ layout.skip = h .at 0 (omega arith) in
       rw r (own k (omega arith) (omega arith) (rw k tt))
   process-written stop n l s h =
       let r : n + 1 - 1 ≡ n = omega arith in
-      let k : word t n 0 ≡ 9 = h .at 0 (omega arith) in
+      let k : word t n 0 ≡ layout.stop = h .at 0 (omega arith) in
       rw r (own k (omega arith) (omega arith) (rw k tt))
   process-written (assign v e) n l s h =
       let m = n + count e in
-      let last = row 10 (v .row) (m - 1) 0 in
+      let last = row layout.assign (v .row) (m - 1) 0 in
       let r : n + (count e + 1) - 1 ≡ m = omega arith in
       let z = some-rows e in
       let g = behind (rows e n) last (count e) (length-rows e n) h in
       let x = expression-written e n l (s .1) (front (rows e n) last h) in
-      let k : word t m 0 ≡ 10 = g .at 0 (omega arith) in
+      let k : word t m 0 ≡ layout.assign = g .at 0 (omega arith) in
       rw r (after x (omega arith) (own k (omega arith) (omega arith)
       (rw k (declared-at (omega arith) (s .0) (g .at 1 (omega arith)), part x (omega arith) (g .at 2 (omega arith))))))
   process-written (assign-element a i e) n l s h =
       let m = n + count i + count e in
-      let last = row 11 (a .row) (n + count i - 1) (m - 1) in
+      let last = row layout.assign-element (a .row) (n + count i - 1) (m - 1) in
       let r : n + (count i + count e + 1) - 1 ≡ m = omega arith in
       let y = some-rows i in
       let z = some-rows e in
@@ -149,14 +151,14 @@ module _ (t : List ℕ) (ds : List Declaration) (holds : Holds t 0 (declared-row
       let g = behind (rows e (n + count i)) last (count e) (length-rows e (n + count i)) f in
       let x = expression-written i n l (s .1) (front (rows i n) (rows e (n + count i) ++ last) h) in
       let x′ = expression-written e (n + count i) (omega arith) (s .2) (front (rows e (n + count i)) last f) in
-      let k : word t m 0 ≡ 11 = g .at 0 (omega arith) in
+      let k : word t m 0 ≡ layout.assign-element = g .at 0 (omega arith) in
       rw r (after x (omega arith) (after x′ (omega arith) (own k (omega arith) (omega arith)
       (rw k (declared-at (omega arith) (s .0) (g .at 1 (omega arith)), part x (omega arith) (g .at 2 (omega arith)), part x′ (omega arith) (g .at 3 (omega arith)))))))
   process-written (sequence p q) n l s h =
       let a = count-process p in
       let b = count-process q in
       let m = n + a + b in
-      let last = row 12 (n + a - 1) (m - 1) 0 in
+      let last = row layout.sequence (n + a - 1) (m - 1) 0 in
       let r : n + (a + b + 1) - 1 ≡ m = omega arith in
       let y = some-rows-process p in
       let z = some-rows-process q in
@@ -164,7 +166,7 @@ module _ (t : List ℕ) (ds : List Declaration) (holds : Holds t 0 (declared-row
       let g = behind (rows-process q (n + a)) last b (length-rows-process q (n + a)) f in
       let x = process-written p n l (s .0) (front (rows-process p n) (rows-process q (n + a) ++ last) h) in
       let x′ = process-written q (n + a) (omega arith) (s .1) (front (rows-process q (n + a)) last f) in
-      let k : word t m 0 ≡ 12 = g .at 0 (omega arith) in
+      let k : word t m 0 ≡ layout.sequence = g .at 0 (omega arith) in
       rw r (after x (omega arith) (after x′ (omega arith) (own k (omega arith) (omega arith)
       (rw k (part x (omega arith) (g .at 1 (omega arith)), part x′ (omega arith) (g .at 2 (omega arith)))))))
   process-written (conditional e p q) n l s h =
@@ -172,7 +174,7 @@ module _ (t : List ℕ) (ds : List Declaration) (holds : Holds t 0 (declared-row
       let a = count-process p in
       let b = count-process q in
       let m = n + c + a + b in
-      let last = row 13 (n + c - 1) (n + c + a - 1) (m - 1) in
+      let last = row layout.if (n + c - 1) (n + c + a - 1) (m - 1) in
       let r : n + (c + a + b + 1) - 1 ≡ m = omega arith in
       let w = some-rows e in
       let y = some-rows-process p in
@@ -183,14 +185,14 @@ module _ (t : List ℕ) (ds : List Declaration) (holds : Holds t 0 (declared-row
       let x = expression-written e n l (s .0) (front (rows e n) (rows-process p (n + c) ++ (rows-process q (n + c + a) ++ last)) h) in
       let x′ = process-written p (n + c) (omega arith) (s .1) (front (rows-process p (n + c)) (rows-process q (n + c + a) ++ last) f) in
       let x″ = process-written q (n + c + a) (omega arith) (s .2) (front (rows-process q (n + c + a)) last i) in
-      let k : word t m 0 ≡ 13 = g .at 0 (omega arith) in
+      let k : word t m 0 ≡ layout.if = g .at 0 (omega arith) in
       rw r (after x (omega arith) (after x′ (omega arith) (after x″ (omega arith) (own k (omega arith) (omega arith)
       (rw k (part x (omega arith) (g .at 1 (omega arith)), part x′ (omega arith) (g .at 2 (omega arith)), part x″ (omega arith) (g .at 3 (omega arith))))))))
   process-written (loop e p) n l s h =
       let c = count e in
       let a = count-process p in
       let m = n + c + a in
-      let last = row 14 (n + c - 1) (m - 1) 0 in
+      let last = row layout.while (n + c - 1) (m - 1) 0 in
       let r : n + (c + a + 1) - 1 ≡ m = omega arith in
       let y = some-rows e in
       let z = some-rows-process p in
@@ -198,14 +200,14 @@ module _ (t : List ℕ) (ds : List Declaration) (holds : Holds t 0 (declared-row
       let g = behind (rows-process p (n + c)) last a (length-rows-process p (n + c)) f in
       let x = expression-written e n l (s .0) (front (rows e n) (rows-process p (n + c) ++ last) h) in
       let x′ = process-written p (n + c) (omega arith) (s .1) (front (rows-process p (n + c)) last f) in
-      let k : word t m 0 ≡ 14 = g .at 0 (omega arith) in
+      let k : word t m 0 ≡ layout.while = g .at 0 (omega arith) in
       rw r (after x (omega arith) (after x′ (omega arith) (own k (omega arith) (omega arith)
       (rw k (part x (omega arith) (g .at 1 (omega arith)), part x′ (omega arith) (g .at 2 (omega arith)))))))
 
 -- ── the theorems: of an accepted program and a table that holds its rows ──
 module _ (p : Program) (t : List ℕ) (s : Sound p) (h : Holds t 0 (table-of p)) where
   -- it can be walked
-  pub well-table : 4 * row-count p ≤ length t → WellProcess t (row-count p - 1)
+  pub well-table : row-words * row-count p ≤ length t → WellProcess t (row-count p - 1)
   unfolding table-of row-count
   well-table l =
       let ds = p .declarations in

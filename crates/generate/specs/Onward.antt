@@ -3,6 +3,7 @@ use mathlib.Core.Path.{_≡_, ap, _∙_}
 use mathlib.Core.List.{List, _++_}
 use Prim.Native.Nat.{ℕ, suc, _≤_}
 use native.Mathlib.Omega.{arith}
+use Rattle.program.specs.Layout as layout
 use Rattle.instructions.specs.Write.{Room, Wrote, first, rest, then}
 use Rattle.values.specs.declared.Row.{Row}
 use Rattle.values.specs.Well.{row-in, Earlier, WellProcess, WellSingle}
@@ -21,15 +22,15 @@ onward e h q = record { said = e; least = omega arith; well = h; room = q; ends 
 
 module _ {t : List ℕ} {r : ℕ} {l : List ℕ} {i s : ℕ} {w : Row} {l′ : List ℕ} {j : ℕ} (o : Onward t r l i s w l′ j) where
   -- the last part
-  pub last : (w .kind ≡ 12 → ⊥) → WellSingle t s
+  pub last : (w .kind ≡ layout.sequence → ⊥) → WellSingle t s
   last n = (o .well, λ e. n (ap (λ (x : Row). x .kind) (o .said) ∙ e))
 
-  module _ (q : w .kind ≡ 12) where
+  module _ (q : w .kind ≡ layout.sequence) where
     -- a sequence's two parts stand before it
-    pub left : Earlier 8 14 t s (w .a)
+    pub left : Earlier layout.skip layout.while t s (w .a)
     left = sequence-names (o .well) (o .said) q .0
 
-    pub right : Earlier 8 14 t s (w .b)
+    pub right : Earlier layout.skip layout.while t s (w .b)
     right = sequence-names (o .well) (o .said) q .1
 
     room-both : Room l′ j (process-in t (w .a) ++ process-in t (w .b))
@@ -55,5 +56,6 @@ both : {k n : ℕ} → n ≤ k → k ≤ n → k ≡ n
 both h q = omega (arith, h, q)
 
 -- past the other kinds only the while is left
-pub only-loop : {k : ℕ} → 8 ≤ k → k ≤ 14 → (k ≡ 8 → ⊥) → (k ≡ 9 → ⊥) → (k ≡ 10 → ⊥) → (k ≡ 11 → ⊥) → (k ≡ 12 → ⊥) → (k ≡ 13 → ⊥) → k ≡ 14
+pub only-loop : {k : ℕ} → layout.skip ≤ k → k ≤ layout.while → (k ≡ layout.skip → ⊥) → (k ≡ layout.stop → ⊥) → (k ≡ layout.assign → ⊥) → (k ≡ layout.assign-element → ⊥)
+    → (k ≡ layout.sequence → ⊥) → (k ≡ layout.if → ⊥) → k ≡ layout.while
 only-loop f t a b c d e g = both (past (past (past (past (past (past f a) b) c) d) e) g) t

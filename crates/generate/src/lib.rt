@@ -1,10 +1,12 @@
 // The image of a syntax table: a walk over its rows, from the last one down.
 ghost use Prim.Native.Nat.{_-_, _<_};
+ghost use Rattle.program.specs.Layout as layout;
 ghost use Rattle.program.specs.Table.{process-at};
 ghost use Rattle.rules.specs.Code.{image-code};
 ghost use Rattle.instructions.specs.Write.{Room, Wrote};
 ghost use Rattle.values.specs.Well.{Well, WellProcess, WellSingle};
 ghost use Rattle.values.specs.Walk.{process-in};
+use program::row;
 use thumb::Instr;
 use values::assign;
 use values::assign_element;
@@ -16,15 +18,15 @@ fn process(table: &[u32], code: &mut [u8], r: usize, at: usize) -> usize
     requires { ⌜ WellProcess (now table) r × Room (now code) at (process-in (now table) r) ⌝ }
     ensures { λ j. ⌜ Wrote (now (code .entry)) at (process-in (now (table .entry)) r) (now (code .exit)) j ⌝ }
 {
-    let mut row = r;
+    let mut last = r;
     let mut to = at;
     let mut w = read_row(table, r);
-    while w.kind == 12 {
+    while w.kind == row::SEQUENCE {
         to = process(table, code, w.a as usize, to);
-        row = w.b as usize;
-        w = read_row(table, row);
+        last = w.b as usize;
+        w = read_row(table, last);
     }
-    single(table, code, row, to)
+    single(table, code, last, to)
 }
 
 // Row r is a process, no sequence.
@@ -34,19 +36,19 @@ fn single(table: &[u32], code: &mut [u8], r: usize, at: usize) -> usize
 {
     let w = read_row(table, r);
     let kind = w.kind;
-    if kind == 8 {
+    if kind == row::SKIP {
         return at;
     }
-    if kind == 9 {
+    if kind == row::STOP {
         return instructions::put(code, at, Instr::Svc(1));
     }
-    if kind == 10 {
+    if kind == row::ASSIGN {
         return assign(table, code, r, at);
     }
-    if kind == 11 {
+    if kind == row::ASSIGN_ELEMENT {
         return assign_element(table, code, r, at);
     }
-    if kind == 13 {
+    if kind == row::IF {
         return conditional(table, code, r, at);
     }
     repeat(table, code, r, at)
@@ -54,7 +56,7 @@ fn single(table: &[u32], code: &mut [u8], r: usize, at: usize) -> usize
 
 // Row r is an if: each part is written before the jump over it.
 fn conditional(table: &[u32], code: &mut [u8], r: usize, at: usize) -> usize
-    requires { ⌜ Well 13 13 (now table) r × Room (now code) at (process-in (now table) r) ⌝ }
+    requires { ⌜ Well layout.if layout.if (now table) r × Room (now code) at (process-in (now table) r) ⌝ }
     ensures { λ j. ⌜ Wrote (now (code .entry)) at (process-in (now (table .entry)) r) (now (code .exit)) j ⌝ }
 {
     let w = read_row(table, r);
@@ -69,7 +71,7 @@ fn conditional(table: &[u32], code: &mut [u8], r: usize, at: usize) -> usize
 
 // Row r is a while: the body is written before the jump over it.
 fn repeat(table: &[u32], code: &mut [u8], r: usize, at: usize) -> usize
-    requires { ⌜ Well 14 14 (now table) r × Room (now code) at (process-in (now table) r) ⌝ }
+    requires { ⌜ Well layout.while layout.while (now table) r × Room (now code) at (process-in (now table) r) ⌝ }
     ensures { λ j. ⌜ Wrote (now (code .entry)) at (process-in (now (table .entry)) r) (now (code .exit)) j ⌝ }
 {
     let w = read_row(table, r);

@@ -6,7 +6,9 @@ use Prim.Native.Nat.{ℕ, zero, suc}
 use lib.Dec.{eqb}
 use Rattle.word.specs.Choice.{pick}
 use Rattle.spelling.specs.Kinds as kind
-use Rattle.grammar.specs.Grammar.{Token, number, name, mark, Expression, single, monadic, diadic, Chain, last, more, Operand, constant, variable, element, bracketed, Process, skip, stop, assign, assign-element, empty, braces, conditional, while, after-comment, Processes, only, followed, Constant, literal, named, Specification, var, array, val, commented, Program, program, is-monadic, is-diadic, is-associative}
+use Rattle.grammar.specs.Grammar.{Token, number, name, mark, Expression, single, monadic, diadic, Chain, last, more, Operand, constant, variable, element, bracketed, Process, skip, stop}
+use Rattle.grammar.specs.Grammar.{assign, assign-element, empty, braces, conditional, while, after-comment, Processes, only, followed, Constant, literal, named, Specification, var, array}
+use Rattle.grammar.specs.Grammar.{val, commented, Program, program, is-monadic, is-diadic, is-associative}
 
 -- Trees with a hole. The specifications before the process stand with the latest first.
 mutual
@@ -121,7 +123,8 @@ goes-on o t = pick (is-associative o) (is o t) false
 -- the move after a whole part, and where a part is needed
 abbrev pub step-have-process : ProcessContext → Process → Token → Move
 step-have-process (top b) p t = none
-step-have-process (in-braces k) p t = pick (is kind.semicolon t) (go (need-process (in-braces (also p k)))) (pick (is kind.close-brace t) (go (have-process (braces (list-built k (only p))) (list-base k))) none)
+step-have-process (in-braces k) p t =
+    pick (is kind.semicolon t) (go (need-process (in-braces (also p k)))) (pick (is kind.close-brace t) (go (have-process (braces (list-built k (only p))) (list-base k))) none)
 step-have-process (in-then e k) p t = pick (is kind.else t) (go (need-process (in-else e p k))) none
 step-have-process (in-else e q k) p t = step-have-process k (conditional e q p) t
 step-have-process (in-body e k) p t = step-have-process k (while e p) t

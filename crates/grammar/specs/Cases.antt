@@ -5,7 +5,8 @@ use mathlib.Core.Bool.{true, false}
 use mathlib.Core.List.{List, [], _∷_}
 use Prim.Native.Nat.{ℕ, zero, suc}
 use Rattle.spelling.specs.Kinds as kind
-use Rattle.grammar.specs.Grammar.{Token, number, name, mark, single, diadic, Chain, last, more, Operand, constant, bracketed, Process, skip, stop, assign, assign-element, empty, braces, only, followed, var, program}
+use Rattle.grammar.specs.Grammar.{Token, number, name, mark, single, diadic, Chain, last, more, Operand, constant, bracketed, Process, skip, stop, assign, assign-element, empty, braces}
+use Rattle.grammar.specs.Grammar.{only, followed, var, program}
 use Rattle.grammar.specs.Automaton.{accepted, refused, run, reads}
 use Rattle.grammar.specs.Depth.{depth, deepest, too-deep}
 use Rattle.grammar.specs.Nesting.{nesting}

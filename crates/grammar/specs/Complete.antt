@@ -8,11 +8,24 @@ use borrow.Author.Tests.{ne-eqb, leb-true}
 use native.Mathlib.Omega.{arith}
 use Rattle.word.specs.ChoiceLaws.{pick-false, both}
 use Rattle.spelling.specs.Kinds as kind
-use Rattle.grammar.specs.Grammar.{Token, number, name, mark, Expression, single, monadic, diadic, Chain, last, more, Operand, constant, variable, element, bracketed, Process, skip, stop, assign, assign-element, empty, braces, conditional, while, after-comment, Processes, only, followed, Constant, literal, named, Specification, var, array, val, commented, Program, program, text-expression, text-chain, text-operand, text-process, text-processes, text-constant, text-specification, text-specifications, text-program, is-diadic, is-associative, well-formed-expression, well-formed-chain, well-formed-operand, well-formed-process, well-formed-processes, well-formed}
-use Rattle.grammar.specs.Automaton.{ProcessContext, top, in-braces, in-then, in-else, in-body, in-comment, ListContext, opened, also, ExpressionContext, in-assign, in-target, in-assign-element, in-if, in-while, in-brackets, in-subscript, OperandContext, first, under, next, ChainContext, after, link, chain-base, chain-built, list-base, list-built, in-order, comments-before, in-comments, Partial, var-read, array-read, array-named, array-opened, array-sized, val-read, val-named, val-equated, whole, State, at-front, specifying, need-process, brace-opened, target, target-element, have-process, need-expression, need-operand, name-read, have-operand, have-expression, goes-on, accepted, run}
-use Rattle.grammar.specs.Moves.{head-is, opens, joins, negates, run-number, run-name, run-brackets, run-brackets-end, run-subscript, run-subscript-end, run-variable, run-expression, run-monadic, run-under, run-single, run-diadic, run-last, run-link, run-skip, run-stop, run-comment, run-target, run-becomes, run-target-subscript, run-target-end, run-element-becomes, run-open, run-empty, run-if, run-then, run-else, run-while, run-do, run-assigned, run-element-assigned, run-conditional, run-repeated, run-commented, run-close, run-semicolon}
-use Rattle.grammar.specs.Front.{run-front-comment, run-var, run-array, run-val, run-var-name, run-array-name, run-val-name, run-array-open, run-array-close, run-val-equal, run-specified, run-done}
-use Rattle.grammar.specs.Sound.{before-front, comments, before-process, before-list, before-expression, before-operand, before-chain, text-partial, text-state, fine-process, fine-list, fine-expression, fine-operand, fine-chain, fine, front-text, comments-text, in-comments-text, in-comments-fine}
+use Rattle.grammar.specs.Grammar.{Token, number, name, mark, Expression, single, monadic, diadic, Chain, last, more, Operand, constant, variable, element, bracketed, Process, skip, stop}
+use Rattle.grammar.specs.Grammar.{assign, assign-element, empty, braces, conditional, while, after-comment, Processes, only, followed, Constant, literal, named, Specification, var, array}
+use Rattle.grammar.specs.Grammar.{val, commented, Program, program, text-expression, text-chain, text-operand, text-process, text-processes, text-constant, text-specification}
+use Rattle.grammar.specs.Grammar.{text-specifications, text-program, is-diadic, is-associative, well-formed-expression, well-formed-chain, well-formed-operand, well-formed-process}
+use Rattle.grammar.specs.Grammar.{well-formed-processes, well-formed}
+use Rattle.grammar.specs.Automaton.{ProcessContext, top, in-braces, in-then, in-else, in-body, in-comment, ListContext, opened, also, ExpressionContext, in-assign, in-target}
+use Rattle.grammar.specs.Automaton.{in-assign-element, in-if, in-while, in-brackets, in-subscript, OperandContext, first, under, next, ChainContext, after, link, chain-base, chain-built}
+use Rattle.grammar.specs.Automaton.{list-base, list-built, in-order, comments-before, in-comments, Partial, var-read, array-read, array-named, array-opened, array-sized, val-read}
+use Rattle.grammar.specs.Automaton.{val-named, val-equated, whole, State, at-front, specifying, need-process, brace-opened, target, target-element, have-process, need-expression}
+use Rattle.grammar.specs.Automaton.{need-operand, name-read, have-operand, have-expression, goes-on, accepted, run}
+use Rattle.grammar.specs.Moves.{head-is, opens, joins, negates, run-number, run-name, run-brackets, run-brackets-end, run-subscript, run-subscript-end, run-variable, run-expression}
+use Rattle.grammar.specs.Moves.{run-monadic, run-under, run-single, run-diadic, run-last, run-link, run-skip, run-stop, run-comment, run-target, run-becomes, run-target-subscript}
+use Rattle.grammar.specs.Moves.{run-target-end, run-element-becomes, run-open, run-empty, run-if, run-then, run-else, run-while, run-do, run-assigned, run-element-assigned, run-conditional}
+use Rattle.grammar.specs.Moves.{run-repeated, run-commented, run-close, run-semicolon}
+use Rattle.grammar.specs.Front.{run-front-comment, run-var, run-array, run-val, run-var-name, run-array-name, run-val-name, run-array-open, run-array-close, run-val-equal, run-specified}
+use Rattle.grammar.specs.Front.{run-done}
+use Rattle.grammar.specs.Sound.{before-front, comments, before-process, before-list, before-expression, before-operand, before-chain, text-partial, text-state, fine-process, fine-list}
+use Rattle.grammar.specs.Sound.{fine-expression, fine-operand, fine-chain, fine, front-text, comments-text, in-comments-text, in-comments-fine}
 
 -- Reading. What follows an expression neither opens a subscript nor joins an operand.
 diadic-opens : (o : ℕ) → is-diadic o ≡ true → eqb o kind.open-subscript ≡ false
@@ -31,12 +44,16 @@ negates-operand (element n e) w = refl
 negates-operand (bracketed e) w = refl
 
 mutual
-  all-expression : (e : Expression) (k : ExpressionContext) (w : List Token) → well-formed-expression e → opens w ≡ false → joins w ≡ false → run (text-expression e w) (need-expression k) ≡ run w (have-expression e k)
+  all-expression : (e : Expression) (k : ExpressionContext) (w : List Token) → well-formed-expression e → opens w ≡ false → joins w ≡ false
+      → run (text-expression e w) (need-expression k) ≡ run w (have-expression e k)
   all-expression (single a) k w p x y = run-expression _ k (negates-operand a w) ∙ all-operand a (first k) w p x ∙ run-single w k a y
   all-expression (monadic o a) k w p x y = run-monadic _ k o (p .0) ∙ all-operand a (under o k) w (p .1) x ∙ run-under w k o a
-  all-expression (diadic o a c) k w p x y = run-expression _ k (negates-operand a _) ∙ all-operand a (first k) (mark o ∷ text-chain c o w) (p .1) (diadic-opens o (p .0)) ∙ run-diadic _ k o a (p .0) ∙ all-chain c o (after a k) w (p .0) (p .2) x y
+  all-expression (diadic o a c) k w p x y =
+      run-expression _ k (negates-operand a _) ∙ all-operand a (first k) (mark o ∷ text-chain c o w) (p .1) (diadic-opens o (p .0)) ∙ run-diadic _ k o a (p .0)
+      ∙ all-chain c o (after a k) w (p .0) (p .2) x y
 
-  all-chain : (c : Chain) (o : ℕ) (k : ChainContext) (w : List Token) → is-diadic o ≡ true → well-formed-chain c o → opens w ≡ false → joins w ≡ false → run (text-chain c o w) (need-operand (next o k)) ≡ run w (have-expression (chain-built k o c) (chain-base k))
+  all-chain : (c : Chain) (o : ℕ) (k : ChainContext) (w : List Token) → is-diadic o ≡ true → well-formed-chain c o → opens w ≡ false → joins w ≡ false
+      → run (text-chain c o w) (need-operand (next o k)) ≡ run w (have-expression (chain-built k o c) (chain-base k))
   all-chain (last a) o k w h p x y = all-operand a (next o k) w p x ∙ run-last w k o a (not-joins o w h y)
   all-chain (more a c) o k w h p x y = all-operand a (next o k) (mark o ∷ text-chain c o w) (p .1) (diadic-opens o h) ∙ run-link _ k o a (p .0) ∙ all-chain c o (link a k) w h (p .2) x y
 
@@ -68,14 +85,19 @@ mutual
   all-process skip k w h x y = run-skip w k
   all-process stop k w h x y = run-stop w k
   all-process (assign n e) k w h x y = run-target _ k n ∙ run-becomes _ k n ∙ all-expression e (in-assign n k) w h x y ∙ run-assigned k w n e
-  all-process (assign-element n s e) k w h x y = run-target _ k n ∙ run-target-subscript _ k n ∙ all-expression s (in-target n k) _ (h .0) refl refl ∙ run-target-end _ k n s ∙ run-element-becomes _ k n s ∙ all-expression e (in-assign-element n s k) w (h .1) x y ∙ run-element-assigned k w n s e
+  all-process (assign-element n s e) k w h x y =
+      run-target _ k n ∙ run-target-subscript _ k n ∙ all-expression s (in-target n k) _ (h .0) refl refl ∙ run-target-end _ k n s ∙ run-element-becomes _ k n s
+      ∙ all-expression e (in-assign-element n s k) w (h .1) x y ∙ run-element-assigned k w n s e
   all-process empty k w h x y = run-open _ k ∙ run-empty w k
   all-process (braces ps) k w h x y = run-open _ k ∙ opened-list ps k (mark kind.close-brace ∷ w) ∙ all-list ps (opened k) w h
-  all-process (conditional e p q) k w h x y = run-if _ k ∙ all-expression e (in-if k) _ (h .0) refl refl ∙ run-then _ k e ∙ all-process p (in-then e k) _ (h .1) refl refl ∙ run-else _ k e p ∙ all-process q (in-else e p k) w (h .2) x y ∙ run-conditional k w e p q
+  all-process (conditional e p q) k w h x y =
+      run-if _ k ∙ all-expression e (in-if k) _ (h .0) refl refl ∙ run-then _ k e ∙ all-process p (in-then e k) _ (h .1) refl refl ∙ run-else _ k e p
+      ∙ all-process q (in-else e p k) w (h .2) x y ∙ run-conditional k w e p q
   all-process (while e p) k w h x y = run-while _ k ∙ all-expression e (in-while k) _ (h .0) refl refl ∙ run-do _ k e ∙ all-process p (in-body e k) w (h .1) x y ∙ run-repeated k w e p
   all-process (after-comment p) k w h x y = run-comment _ k ∙ all-process p (in-comment k) w h x y ∙ run-commented k w p
 
-  all-list : (ps : Processes) (k : ListContext) (w : List Token) → well-formed-processes ps → run (text-processes ps (mark kind.close-brace ∷ w)) (need-process (in-braces k)) ≡ run w (have-process (braces (list-built k ps)) (list-base k))
+  all-list : (ps : Processes) (k : ListContext) (w : List Token) → well-formed-processes ps
+      → run (text-processes ps (mark kind.close-brace ∷ w)) (need-process (in-braces k)) ≡ run w (have-process (braces (list-built k ps)) (list-base k))
   all-list (only p) k w h = all-process p (in-braces k) _ h refl refl ∙ run-close p k w
   all-list (followed p ps) k w h = all-process p (in-braces k) _ (h .0) refl refl ∙ run-semicolon p k _ ∙ all-list ps (also p k) w (h .1)
 
@@ -89,7 +111,8 @@ unfolding run
 all-constant-val (literal v) b n x w = refl
 all-constant-val (named y) b n x w = refl
 
-all-specification : (s : Specification) (b : List Specification) (n : ℕ) (w : List Token) → run (text-specification s (mark kind.semicolon ∷ w)) (at-front b n) ≡ run w (at-front (comments-before n s ∷ b) 0)
+all-specification : (s : Specification) (b : List Specification) (n : ℕ) (w : List Token)
+    → run (text-specification s (mark kind.semicolon ∷ w)) (at-front b n) ≡ run w (at-front (comments-before n s ∷ b) 0)
 all-specification (var x) b n w = run-var b n _ ∙ run-var-name b n _ x ∙ run-specified b n w (var x)
 all-specification (array x c) b n w = run-array b n _ ∙ run-array-name b n _ x ∙ run-array-open b n _ x ∙ all-constant-array c b n x _ ∙ run-array-close b n _ x c ∙ run-specified b n w (array x c)
 all-specification (val x c) b n w = run-val b n _ ∙ run-val-name b n _ x ∙ run-val-equal b n _ x ∙ all-constant-val c b n x _ ∙ run-specified b n w (val x c)
@@ -149,7 +172,8 @@ abbrev mutual
   after-list (also p k) = after-list k
 
 mutual
-  process-plugged : (k : ProcessContext) (p : Process) → fine-process k → well-formed-process p → (before-process k (text-process p (after-process k)) ≡ text-program (plug-process k p)) × well-formed (plug-process k p)
+  process-plugged : (k : ProcessContext) (p : Process) → fine-process k → well-formed-process p
+      → (before-process k (text-process p (after-process k)) ≡ text-program (plug-process k p)) × well-formed (plug-process k p)
   process-plugged (top b) p q h = (front-text b [] (text-process p []), h)
   process-plugged (in-braces k) p q h = list-plugged k (only p) q h
   process-plugged (in-then e k) p q h = process-plugged k (conditional e p skip) (q .1) (q .0, h, tt)
@@ -157,7 +181,8 @@ mutual
   process-plugged (in-body e k) p q h = process-plugged k (while e p) (q .1) (q .0, h)
   process-plugged (in-comment k) p q h = process-plugged k (after-comment p) q h
 
-  list-plugged : (k : ListContext) (ps : Processes) → fine-list k → well-formed-processes ps → (before-list k (text-processes ps (mark kind.close-brace ∷ after-list k)) ≡ text-program (plug-list k ps)) × well-formed (plug-list k ps)
+  list-plugged : (k : ListContext) (ps : Processes) → fine-list k → well-formed-processes ps
+      → (before-list k (text-processes ps (mark kind.close-brace ∷ after-list k)) ≡ text-program (plug-list k ps)) × well-formed (plug-list k ps)
   list-plugged (opened k) ps q h = process-plugged k (braces ps) q h
   list-plugged (also p k) ps q h = list-plugged k (followed p ps) (q .1) (q .0, h)
 
@@ -200,7 +225,8 @@ abbrev mutual
   after-chain (link a k) = after-chain k
 
 mutual
-  expression-plugged : (k : ExpressionContext) (e : Expression) → fine-expression k → well-formed-expression e → (before-expression k (text-expression e (after-expression k)) ≡ text-program (plug-expression k e)) × well-formed (plug-expression k e)
+  expression-plugged : (k : ExpressionContext) (e : Expression) → fine-expression k → well-formed-expression e
+      → (before-expression k (text-expression e (after-expression k)) ≡ text-program (plug-expression k e)) × well-formed (plug-expression k e)
   expression-plugged (in-assign n k) e q p = process-plugged k (assign n e) q p
   expression-plugged (in-target n k) e q p = process-plugged k (assign-element n e (single (constant 0))) q (p, tt)
   expression-plugged (in-assign-element n s k) e q p = process-plugged k (assign-element n s e) (q .1) (q .0, p)
@@ -209,12 +235,14 @@ mutual
   expression-plugged (in-brackets k) e q p = operand-plugged k (bracketed e) q p
   expression-plugged (in-subscript n k) e q p = operand-plugged k (element n e) q p
 
-  operand-plugged : (k : OperandContext) (a : Operand) → fine-operand k → well-formed-operand a → (before-operand k (text-operand a (after-operand k)) ≡ text-program (plug-operand k a)) × well-formed (plug-operand k a)
+  operand-plugged : (k : OperandContext) (a : Operand) → fine-operand k → well-formed-operand a
+      → (before-operand k (text-operand a (after-operand k)) ≡ text-program (plug-operand k a)) × well-formed (plug-operand k a)
   operand-plugged (first k) a q p = expression-plugged k (single a) q p
   operand-plugged (under o k) a q p = expression-plugged k (monadic o a) (q .1) (q .0, p)
   operand-plugged (next o k) a q p = chain-plugged k o (last a) (q .0) (q .1) p
 
-  chain-plugged : (k : ChainContext) (o : ℕ) (c : Chain) → is-diadic o ≡ true → fine-chain k o → well-formed-chain c o → (before-chain k o (text-chain c o (after-chain k)) ≡ text-program (plug-chain k o c)) × well-formed (plug-chain k o c)
+  chain-plugged : (k : ChainContext) (o : ℕ) (c : Chain) → is-diadic o ≡ true → fine-chain k o → well-formed-chain c o
+      → (before-chain k o (text-chain c o (after-chain k)) ≡ text-program (plug-chain k o c)) × well-formed (plug-chain k o c)
   chain-plugged (after a k) o c h q p = expression-plugged k (diadic o a c) (q .1) (h, q .0, p)
   chain-plugged (link a k) o c h q p = chain-plugged k o (more a c) h (q .2) (q .0, q .1, p)
 
@@ -226,13 +254,19 @@ pub record Ends (s : State) : Type 0 where
   pub completes : text-state s more-tokens ≡ text-program tree
 
 ends-whole : (b : List Specification) (n : ℕ) (s : Specification) → Ends (specifying b n (whole s))
-ends-whole b n s = record { more-tokens = mark kind.semicolon ∷ mark kind.skip ∷ []; tree = program (in-order b (comments-before n s ∷ [])) skip; proper = tt; completes = ap (before-front b) (comments-text n s _) ∙ front-text b (comments-before n s ∷ []) (mark kind.skip ∷ []) }
+ends-whole b n s = record {
+  more-tokens = mark kind.semicolon ∷ mark kind.skip ∷ [];
+  tree = program (in-order b (comments-before n s ∷ [])) skip;
+  proper = tt;
+  completes = ap (before-front b) (comments-text n s _) ∙ front-text b (comments-before n s ∷ []) (mark kind.skip ∷ []);
+}
 
 -- whatever completes s after ts completes s′, where ts leads from s′ to s
 ends-after : (s s′ : State) (ts : List Token → List Token) → ((w : List Token) → text-state s′ (ts w) ≡ text-state s w) → Ends s → Ends s′
 ends-after s s′ ts e h = record { more-tokens = ts (h .more-tokens); tree = h .tree; proper = h .proper; completes = e (h .more-tokens) ∙ h .completes }
 
-ends-specified : (b : List Specification) (n : ℕ) (x : Partial) (s : Specification) (ts : List Token → List Token) → ((w : List Token) → text-partial x (ts w) ≡ text-specification s w) → Ends (specifying b n x)
+ends-specified : (b : List Specification) (n : ℕ) (x : Partial) (s : Specification) (ts : List Token → List Token)
+    → ((w : List Token) → text-partial x (ts w) ≡ text-specification s w) → Ends (specifying b n x)
 ends-specified b n x s ts e = ends-after (specifying b n (whole s)) (specifying b n x) ts (λ w. ap (λ (l : List Token). before-front b (comments n l)) (e w)) (ends-whole b n s)
 
 ends-partial : (b : List Specification) (n : ℕ) (x : Partial) → Ends (specifying b n x)

@@ -2,7 +2,8 @@
 use mathlib.Core.Bool.{Bool}
 use Prim.Native.Nat.{ℕ, suc, max}
 use lib.Dec.{ltb}
-use Rattle.grammar.specs.Grammar.{Expression, single, monadic, diadic, Chain, last, more, Operand, constant, variable, element, bracketed, Process, skip, stop, assign, assign-element, empty, braces, conditional, while, after-comment, Processes, only, followed, Program, program}
+use Rattle.grammar.specs.Grammar.{Expression, single, monadic, diadic, Chain, last, more, Operand, constant, variable, element, bracketed, Process, skip, stop, assign, assign-element}
+use Rattle.grammar.specs.Grammar.{empty, braces, conditional, while, after-comment, Processes, only, followed, Program, program}
 
 -- "Depth: a constant or name is 1; brackets, a subscript, a monadic or a diadic operation add 1 to the deepest part, a chain counted as grouped."
 abbrev mutual

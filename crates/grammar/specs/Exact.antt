@@ -42,7 +42,8 @@ refused-first ts r h =
       before = y .taken;
       split = y .split;
       viable = (e .more-tokens, (e .tree, e .proper, y .read (e .more-tokens) ∙ e .completes));
-      dead = λ t r′ w k j. refused-not (t ∷ w) (j .0) (sym (y .came (t ∷ w) ∙ stuck-run t r′ w (y .here) (subst (λ (l : List Token). Stuck l (y .here)) k (y .stuck))) ∙ ap reads (j .2) ∙ accepts (j .0) (j .1));
+      dead = λ t r′ w k j. refused-not (t ∷ w) (j .0)
+          (sym (y .came (t ∷ w) ∙ stuck-run t r′ w (y .here) (subst (λ (l : List Token). Stuck l (y .here)) k (y .stuck))) ∙ ap reads (j .2) ∙ accepts (j .0) (j .1));
       ended = λ k j. refused-not r (j .0) (sym h ∙ ap reads (j .2) ∙ accepts (j .0) (j .1));
     }
 

@@ -3,7 +3,11 @@ use Prim.Native.Nat.{ℕ, _+_, _≤_}
 use mathlib.Core.List.{List, [], _∷_}
 use native.Mathlib.Omega.{arith}
 use lib.ListN.{length}
-use Rattle.grammar.specs.Grammar.{Token, mark, Constant, literal, named, Specification, var, array, val, commented, Expression, single, monadic, diadic, Chain, last, more, Operand, constant, variable, element, bracketed, Process, skip, stop, assign, assign-element, empty, braces, conditional, while, after-comment, Processes, only, followed, Program, program, text-expression, text-chain, text-operand, text-process, text-processes, text-constant, text-specification, text-specifications, text-program}
+use Rattle.spelling.specs.Kinds as kind
+use Rattle.grammar.specs.Grammar.{Token, mark, Constant, literal, named, Specification, var, array, val, commented, Expression, single, monadic, diadic, Chain, last, more, Operand}
+use Rattle.grammar.specs.Grammar.{constant, variable, element, bracketed, Process, skip, stop, assign, assign-element, empty, braces, conditional, while, after-comment, Processes, only}
+use Rattle.grammar.specs.Grammar.{followed, Program, program, text-expression, text-chain, text-operand, text-process, text-processes, text-constant, text-specification}
+use Rattle.grammar.specs.Grammar.{text-specifications, text-program}
 use Rattle.grammar.specs.Rows.{count-expression, count-chain, count-operand, count-process, count-processes, declared-by, declared-rows, row-count}
 
 mutual
@@ -21,8 +25,8 @@ mutual
   few-O : (a : Operand) (w : List Token) → count-operand a + length w ≤ length (text-operand a w)
   few-O (constant v) w = omega arith
   few-O (variable n) w = omega arith
-  few-O (element n e) w = omega (arith, few-E e (mark 7 ∷ w))
-  few-O (bracketed e) w = omega (arith, few-E e (mark 5 ∷ w))
+  few-O (element n e) w = omega (arith, few-E e (mark kind.close-subscript ∷ w))
+  few-O (bracketed e) w = omega (arith, few-E e (mark kind.close-bracket ∷ w))
 
 mutual
   unfolding count-process
@@ -31,16 +35,16 @@ mutual
   few-P skip w = omega arith
   few-P stop w = omega arith
   few-P (assign n e) w = omega (arith, few-E e w)
-  few-P (assign-element n i e) w = omega (arith, few-E i (mark 7 ∷ mark 12 ∷ text-expression e w), few-E e w)
+  few-P (assign-element n i e) w = omega (arith, few-E i (mark kind.close-subscript ∷ mark kind.becomes ∷ text-expression e w), few-E e w)
   few-P empty w = omega arith
-  few-P (braces ps) w = omega (arith, few-L ps (mark 9 ∷ w))
-  few-P (conditional e p q) w = omega (arith, few-E e (mark 19 ∷ text-process p (mark 20 ∷ text-process q w)), few-P p (mark 20 ∷ text-process q w), few-P q w)
-  few-P (while e p) w = omega (arith, few-E e (mark 22 ∷ text-process p w), few-P p w)
+  few-P (braces ps) w = omega (arith, few-L ps (mark kind.close-brace ∷ w))
+  few-P (conditional e p q) w = omega (arith, few-E e (mark kind.then ∷ text-process p (mark kind.else ∷ text-process q w)), few-P p (mark kind.else ∷ text-process q w), few-P q w)
+  few-P (while e p) w = omega (arith, few-E e (mark kind.do-word ∷ text-process p w), few-P p w)
   few-P (after-comment p) w = omega (arith, few-P p w)
 
   few-L : (ps : Processes) (w : List Token) → count-processes ps + length w ≤ length (text-processes ps w)
   few-L (only p) w = few-P p w
-  few-L (followed p ps) w = omega (arith, few-P p (mark 10 ∷ text-processes ps w), few-L ps w)
+  few-L (followed p ps) w = omega (arith, few-P p (mark kind.semicolon ∷ text-processes ps w), few-L ps w)
 
 constant-text : (c : Constant) (w : List Token) → length w ≤ length (text-constant c w)
 constant-text (literal v) w = omega arith
@@ -48,13 +52,13 @@ constant-text (named n) w = omega arith
 
 few-S : (d : Specification) (w : List Token) → declared-by d + length w ≤ length (text-specification d w)
 few-S (var n) w = omega arith
-few-S (array n c) w = omega (arith, constant-text c (mark 7 ∷ w))
+few-S (array n c) w = omega (arith, constant-text c (mark kind.close-subscript ∷ w))
 few-S (val n c) w = omega (arith, constant-text c w)
 few-S (commented d) w = omega (arith, few-S d w)
 
 pub few-Ss : (ds : List Specification) (w : List Token) → declared-rows ds + length w ≤ length (text-specifications ds w)
 few-Ss [] w = omega arith
-few-Ss (d ∷ ds) w = omega (arith, few-S d (mark 10 ∷ text-specifications ds w), few-Ss ds w)
+few-Ss (d ∷ ds) w = omega (arith, few-S d (mark kind.semicolon ∷ text-specifications ds w), few-Ss ds w)
 
 pub few-rows : (p : Program) → row-count p ≤ length (text-program p)
 few-rows (program ds p) = omega (arith, few-Ss ds (text-process p []), few-P p [])

@@ -6,7 +6,8 @@ use Prim.Native.Nat.{ℕ, zero, suc}
 use native.Mathlib.Omega.{arith}
 use Rattle.spelling.specs.Kinds as kind
 use Rattle.grammar.specs.Grammar.{Token, number, name, mark, Process, after-comment, Constant, Specification, var, array, val, program}
-use Rattle.grammar.specs.Automaton.{ProcessContext, top, comments-before, in-comments, in-order, var-read, array-read, array-named, array-opened, array-sized, val-read, val-named, val-equated, whole, State, at-front, specifying, need-process, have-process, is, accepted, refused, run}
+use Rattle.grammar.specs.Automaton.{ProcessContext, top, comments-before, in-comments, in-order, var-read, array-read, array-named, array-opened, array-sized, val-read, val-named}
+use Rattle.grammar.specs.Automaton.{val-equated, whole, State, at-front, specifying, need-process, have-process, is, accepted, refused, run}
 use Rattle.grammar.specs.Moves.{head-is, run-commented}
 
 module _ (b : List Specification) (n : ℕ) where
@@ -27,7 +28,8 @@ module _ (b : List Specification) (n : ℕ) where
   run-val w = refl
 
   -- no specification: the process
-  pub run-front : (w : List Token) → head-is (is kind.comment) w ≡ false → head-is (is kind.var) w ≡ false → head-is (is kind.array) w ≡ false → head-is (is kind.val) w ≡ false → run w (at-front b n) ≡ run w (need-process (in-comments n (top b)))
+  pub run-front : (w : List Token) → head-is (is kind.comment) w ≡ false → head-is (is kind.var) w ≡ false → head-is (is kind.array) w ≡ false → head-is (is kind.val) w ≡ false
+      → run w (at-front b n) ≡ run w (need-process (in-comments n (top b)))
   unfolding run
   run-front [] e f g h = refl
   run-front (t ∷ w) e f g h = rw (e, f, g, h)

@@ -6,8 +6,12 @@ use Prim.Native.Nat.{ℕ}
 use lib.Dec.{eqb}
 use borrow.Author.Tests.{eq-eqb}
 use Rattle.spelling.specs.Kinds as kind
-use Rattle.grammar.specs.Grammar.{Token, number, name, mark, Expression, single, monadic, last, Operand, constant, variable, element, bracketed, Process, skip, stop, assign, assign-element, empty, braces, conditional, while, after-comment, only, is-monadic, is-diadic, is-associative}
-use Rattle.grammar.specs.Automaton.{ProcessContext, in-braces, in-then, in-else, in-body, in-comment, ListContext, opened, also, ExpressionContext, in-assign, in-target, in-assign-element, in-if, in-while, in-brackets, in-subscript, OperandContext, first, under, next, ChainContext, after, link, chain-base, chain-built, list-base, list-built, need-process, brace-opened, target, target-element, have-process, need-expression, need-operand, name-read, have-operand, have-expression, is, kind-of, goes-on, refused, run}
+use Rattle.grammar.specs.Grammar.{Token, number, name, mark, Expression, single, monadic, last, Operand, constant, variable, element, bracketed, Process, skip, stop, assign, assign-element}
+use Rattle.grammar.specs.Grammar.{empty, braces, conditional, while, after-comment, only, is-monadic, is-diadic, is-associative}
+use Rattle.grammar.specs.Automaton.{ProcessContext, in-braces, in-then, in-else, in-body, in-comment, ListContext, opened, also, ExpressionContext, in-assign, in-target, in-assign-element}
+use Rattle.grammar.specs.Automaton.{in-if, in-while, in-brackets, in-subscript, OperandContext, first, under, next, ChainContext, after, link, chain-base, chain-built, list-base}
+use Rattle.grammar.specs.Automaton.{list-built, need-process, brace-opened, target, target-element, have-process, need-expression, need-operand, name-read, have-operand, have-expression}
+use Rattle.grammar.specs.Automaton.{is, kind-of, goes-on, refused, run}
 
 -- the first token passes a test
 abbrev pub head-is : (Token → Bool) → List Token → Bool
@@ -96,7 +100,8 @@ pub run-diadic : (w : List Token) (k : ExpressionContext) (o : ℕ) (a : Operand
 unfolding run
 run-diadic w k o a h = rw h
 
-pub run-last : (w : List Token) (k : ChainContext) (o : ℕ) (a : Operand) → head-is (goes-on o) w ≡ false → run w (have-operand a (next o k)) ≡ run w (have-expression (chain-built k o (last a)) (chain-base k))
+pub run-last : (w : List Token) (k : ChainContext) (o : ℕ) (a : Operand) → head-is (goes-on o) w ≡ false
+    → run w (have-operand a (next o k)) ≡ run w (have-expression (chain-built k o (last a)) (chain-base k))
 unfolding run
 run-last [] k o a h = refl
 run-last (t ∷ w) k o a h = rw h
@@ -167,7 +172,8 @@ module _ (w : List Token) (k : ProcessContext) where
   unfolding run
   run-do e = refl
 
-  pub run-process-stop : (m : ℕ) → eqb m kind.skip ≡ false → eqb m kind.stop ≡ false → eqb m kind.open-brace ≡ false → eqb m kind.if ≡ false → eqb m kind.while ≡ false → eqb m kind.comment ≡ false → run (mark m ∷ w) (need-process k) ≡ refused (mark m ∷ w)
+  pub run-process-stop : (m : ℕ) → eqb m kind.skip ≡ false → eqb m kind.stop ≡ false → eqb m kind.open-brace ≡ false → eqb m kind.if ≡ false → eqb m kind.while ≡ false
+      → eqb m kind.comment ≡ false → run (mark m ∷ w) (need-process k) ≡ refused (mark m ∷ w)
   unfolding run
   run-process-stop m a b c d e f = rw (a, b, c, d, e, f)
 

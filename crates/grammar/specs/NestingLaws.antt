@@ -1,12 +1,10 @@
--- A program nests no deeper than it is deep. Laws; rests on Nesting and Depth.
-use mathlib.Core.Path.{_≡_}
-use mathlib.Core.Bool.{false}
-use Prim.Native.Nat.{_≤_, max}
+-- Expressions nest no deeper than they are deep. Laws; rests on Nesting and Depth.
+use Prim.Native.Nat.{_≤_}
 use native.Mathlib.Omega.{arith}
-use borrow.Author.Tests.{ltb-false}
-use Rattle.grammar.specs.Grammar.{Expression, single, monadic, diadic, Chain, last, more, Operand, constant, variable, element, bracketed, Process, skip, stop, assign, assign-element, empty, braces, conditional, while, after-comment, Processes, only, followed, Program, program}
-use Rattle.grammar.specs.Depth.{depth-expression, depth-chain, depth-operand, depth-process, depth-processes, deepest-process, deepest-processes, depth, deepest, depth-limit, too-deep}
-use Rattle.grammar.specs.Nesting.{nesting-process, nesting-processes, nesting-expression, nesting-chain, nesting-operand, within-process, within-processes, nesting}
+use Rattle.grammar.specs.Grammar.{Expression, single, monadic, diadic, Chain, last, more, Operand, constant, variable, element, bracketed, Process, skip, stop, assign, assign-element}
+use Rattle.grammar.specs.Grammar.{empty, braces, conditional, while, after-comment, Processes, only, followed}
+use Rattle.grammar.specs.Depth.{depth-expression, depth-chain, depth-operand, deepest-process, deepest-processes}
+use Rattle.grammar.specs.Nesting.{nesting-expression, nesting-chain, nesting-operand, within-process, within-processes}
 
 mutual
   pub nests-expression : (e : Expression) → nesting-expression e ≤ depth-expression e
@@ -25,22 +23,6 @@ mutual
   nests-operand (bracketed e) = omega (arith, nests-expression e)
 
 mutual
-  pub nests-process : (p : Process) → nesting-process p ≤ depth-process p
-  nests-process skip = omega arith
-  nests-process stop = omega arith
-  nests-process (assign n e) = omega arith
-  nests-process (assign-element n s e) = omega arith
-  nests-process empty = omega arith
-  nests-process (braces ps) = omega (arith, nests-processes ps)
-  nests-process (conditional e p q) = omega (arith, nests-process p, nests-process q)
-  nests-process (while e p) = omega (arith, nests-process p)
-  nests-process (after-comment p) = nests-process p
-
-  pub nests-processes : (ps : Processes) → nesting-processes ps ≤ depth-processes ps
-  nests-processes (only p) = nests-process p
-  nests-processes (followed p ps) = omega (arith, nests-process p, nests-processes ps)
-
-mutual
   pub nests-within : (p : Process) → within-process p ≤ deepest-process p
   nests-within skip = omega arith
   nests-within stop = omega arith
@@ -55,10 +37,3 @@ mutual
   pub nests-within-list : (ps : Processes) → within-processes ps ≤ deepest-processes ps
   nests-within-list (only p) = nests-within p
   nests-within-list (followed p ps) = omega (arith, nests-within p, nests-within-list ps)
-
-pub nests : (p : Program) → nesting p ≤ max (depth p) (deepest p)
-nests (program ss p) = omega (arith, nests-process p, nests-within p)
-
--- a program within document 01's limit nests within it
-pub nests-bounded : (p : Program) → too-deep p ≡ false → nesting p ≤ depth-limit
-nests-bounded p h = omega (arith, nests p, ltb-false depth-limit (max (depth p) (deepest p)) h)

@@ -5,7 +5,12 @@ use Prim.Native.Nat.{ℕ, _+_, _-_}
 use lib.Dec.{eqb}
 use Rattle.word.specs.Choice.{pick}
 use Rattle.spelling.specs.Kinds as kind
-use Rattle.grammar.specs.Grammar.{Expression, single, monadic, diadic, Chain, last, more, Operand, constant, variable, element, bracketed, Process, skip, stop, assign, assign-element, empty, braces, conditional, while, after-comment, Processes, only, followed, Specification, var, array, val, commented, Program, program}
+use Rattle.grammar.specs.Grammar.{Expression, single, monadic, diadic, Chain, last, more, Operand, constant, variable, element, bracketed, Process, skip, stop, assign, assign-element}
+use Rattle.grammar.specs.Grammar.{empty, braces, conditional, while, after-comment, Processes, only, followed, Specification, var, array, val, commented, Program, program}
+use Rattle.program.specs.Layout as layout
+use Rattle.program.specs.Tree.{negate, invert}
+use Rattle.program.specs.Rows as table
+pub use Rattle.program.specs.Rows.{row}
 
 -- "`{ }` is skip; brackets and one-process braces make no row": how many rows a part has
 unfoldable mutual
@@ -40,27 +45,23 @@ unfoldable mutual
   count-processes (only p) = count-process p
   count-processes (followed p ps) = count-process p + count-processes ps + 1
 
--- "Rows of four words (kind, a, b, c), unused 0"
-abbrev pub row : ℕ → ℕ → ℕ → ℕ → List ℕ
-row k a b c = k ∷ a ∷ b ∷ c ∷ []
-
 -- "Monadic: 1 `-`, 2 not."
 abbrev pub monadic-number : ℕ → ℕ
-monadic-number o = pick (eqb o kind.minus) 1 2
+monadic-number o = pick (eqb o kind.minus) (table.monadic-number negate) (table.monadic-number invert)
 
 -- "Diadic from 1: `+ - * and or xor >> << = <> < <= > >=`": the kinds stand in that order
 abbrev pub diadic-number : ℕ → ℕ
-diadic-number o = o - 30
+diadic-number o = o - kind.operator-base
 
 -- two operands and the row that joins them: a's rows from n, its last m - 1, and c's from m, its last l - 1
 abbrev pub joined : ℕ → List ℕ → List ℕ → ℕ → ℕ → List ℕ
-joined o xs ys m l = xs ++ ys ++ row 7 (diadic-number o) (m - 1) (l - 1)
+joined o xs ys m l = xs ++ ys ++ row layout.diadic (diadic-number o) (m - 1) (l - 1)
 
 -- "3 number (word); 4 variable (its row); 5 element (array row, subscript row); 6 monadic (operator, row); 7 diadic (operator, left, right)"
 unfoldable mutual
   pub rows-expression : Expression → ℕ → List ℕ
   rows-expression (single a) n = rows-operand a n
-  rows-expression (monadic o a) n = rows-operand a n ++ row 6 (monadic-number o) (n + count-operand a - 1) 0
+  rows-expression (monadic o a) n = rows-operand a n ++ row layout.monadic (monadic-number o) (n + count-operand a - 1) 0
   rows-expression (diadic o a c) n = joined o (rows-operand a n) (rows-chain c o (n + count-operand a)) (n + count-operand a) (n + count-operand a + count-chain c)
 
   pub rows-chain : Chain → ℕ → ℕ → List ℕ
@@ -68,27 +69,30 @@ unfoldable mutual
   rows-chain (more a c) o n = joined o (rows-operand a n) (rows-chain c o (n + count-operand a)) (n + count-operand a) (n + count-operand a + count-chain c)
 
   pub rows-operand : Operand → ℕ → List ℕ
-  rows-operand (constant v) n = row 3 v 0 0
-  rows-operand (variable x) n = row 4 x 0 0
-  rows-operand (element x e) n = rows-expression e n ++ row 5 x (n + count-expression e - 1) 0
+  rows-operand (constant v) n = row layout.number v 0 0
+  rows-operand (variable x) n = row layout.variable x 0 0
+  rows-operand (element x e) n = rows-expression e n ++ row layout.element x (n + count-expression e - 1) 0
   rows-operand (bracketed e) n = rows-expression e n
 
--- "8 skip; 9 stop; 10 assign (var row, value); 11 assign element (array row, subscript, value); 12 two in sequence, a list grouped to the right; 13 if (condition, then, else); 14 while (condition, body)"
+-- "8 skip; 9 stop; 10 assign (var row, value); 11 assign element (array row, subscript, value); 12 two in sequence, a list grouped to the right; 13 if (condition, then, else); 14 while
+-- (condition, body)"
 unfoldable mutual
   pub rows-process : Process → ℕ → List ℕ
-  rows-process skip n = row 8 0 0 0
-  rows-process stop n = row 9 0 0 0
-  rows-process (assign x e) n = rows-expression e n ++ row 10 x (n + count-expression e - 1) 0
-  rows-process (assign-element x s e) n = rows-expression s n ++ rows-expression e (n + count-expression s) ++ row 11 x (n + count-expression s - 1) (n + count-expression s + count-expression e - 1)
-  rows-process empty n = row 8 0 0 0
+  rows-process skip n = row layout.skip 0 0 0
+  rows-process stop n = row layout.stop 0 0 0
+  rows-process (assign x e) n = rows-expression e n ++ row layout.assign x (n + count-expression e - 1) 0
+  rows-process (assign-element x s e) n =
+      rows-expression s n ++ rows-expression e (n + count-expression s) ++ row layout.assign-element x (n + count-expression s - 1) (n + count-expression s + count-expression e - 1)
+  rows-process empty n = row layout.skip 0 0 0
   rows-process (braces ps) n = rows-processes ps n
-  rows-process (conditional e p q) n = rows-expression e n ++ rows-process p (n + count-expression e) ++ rows-process q (n + count-expression e + count-process p) ++ row 13 (n + count-expression e - 1) (n + count-expression e + count-process p - 1) (n + count-expression e + count-process p + count-process q - 1)
-  rows-process (while e p) n = rows-expression e n ++ rows-process p (n + count-expression e) ++ row 14 (n + count-expression e - 1) (n + count-expression e + count-process p - 1) 0
+  rows-process (conditional e p q) n = rows-expression e n ++ rows-process p (n + count-expression e) ++ rows-process q (n + count-expression e + count-process p)
+      ++ row layout.if (n + count-expression e - 1) (n + count-expression e + count-process p - 1) (n + count-expression e + count-process p + count-process q - 1)
+  rows-process (while e p) n = rows-expression e n ++ rows-process p (n + count-expression e) ++ row layout.while (n + count-expression e - 1) (n + count-expression e + count-process p - 1) 0
   rows-process (after-comment p) n = rows-process p n
 
   pub rows-processes : Processes → ℕ → List ℕ
   rows-processes (only p) n = rows-process p n
-  rows-processes (followed p ps) n = rows-process p n ++ rows-processes ps (n + count-process p) ++ row 12 (n + count-process p - 1) (n + count-process p + count-processes ps - 1) 0
+  rows-processes (followed p ps) n = rows-process p n ++ rows-processes ps (n + count-process p) ++ row layout.sequence (n + count-process p - 1) (n + count-process p + count-processes ps - 1) 0
 
 -- "1 var; 2 array; val makes no row": how many rows the specifications make, which are made elsewhere and stand first
 abbrev pub declared-by : Specification → ℕ

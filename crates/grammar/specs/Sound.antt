@@ -9,8 +9,17 @@ use borrow.Author.Tests.{eqb-true}
 use Rattle.word.specs.Choice.{pick}
 use Rattle.word.specs.ChoiceLaws.{both}
 use Rattle.spelling.specs.Kinds as kind
-use Rattle.grammar.specs.Grammar.{Token, number, name, mark, Expression, single, monadic, Chain, last, more, Operand, variable, Process, skip, stop, assign, assign-element, braces, conditional, while, after-comment, Processes, only, followed, Constant, literal, named, Specification, var, array, val, commented, text-expression, text-chain, text-operand, text-process, text-processes, text-constant, text-specification, text-specifications, text-program, is-monadic, is-diadic, is-associative, well-formed-expression, well-formed-chain, well-formed-operand, well-formed-process, well-formed-processes, well-formed}
-use Rattle.grammar.specs.Automaton.{ProcessContext, top, in-braces, in-then, in-else, in-body, in-comment, ListContext, opened, also, ExpressionContext, in-assign, in-target, in-assign-element, in-if, in-while, in-brackets, in-subscript, OperandContext, first, under, next, ChainContext, after, link, chain-base, chain-built, list-base, list-built, in-order, comments-before, in-comments, Partial, var-read, array-read, array-named, array-opened, array-sized, val-read, val-named, val-equated, whole, State, at-front, specifying, need-process, brace-opened, target, target-element, have-process, need-expression, need-operand, name-read, have-operand, have-expression, Move, go, none, is, kind-of, goes-on, step-have-process, step-have-expression, step-have-operand, step-operand, step-expression, step-process, with-name, with-constant, step-partial, step-front, step, Reading, accepted, refused, final-process, final-expression, final-operand, final, onward, run}
+use Rattle.grammar.specs.Grammar.{Token, number, name, mark, Expression, single, monadic, Chain, last, more, Operand, variable, Process, skip, stop, assign, assign-element, braces}
+use Rattle.grammar.specs.Grammar.{conditional, while, after-comment, Processes, only, followed, Constant, literal, named, Specification, var, array, val, commented, text-expression}
+use Rattle.grammar.specs.Grammar.{text-chain, text-operand, text-process, text-processes, text-constant, text-specification, text-specifications, text-program, is-monadic, is-diadic}
+use Rattle.grammar.specs.Grammar.{is-associative, well-formed-expression, well-formed-chain, well-formed-operand, well-formed-process, well-formed-processes, well-formed}
+use Rattle.grammar.specs.Automaton.{ProcessContext, top, in-braces, in-then, in-else, in-body, in-comment, ListContext, opened, also, ExpressionContext, in-assign, in-target}
+use Rattle.grammar.specs.Automaton.{in-assign-element, in-if, in-while, in-brackets, in-subscript, OperandContext, first, under, next, ChainContext, after, link, chain-base, chain-built}
+use Rattle.grammar.specs.Automaton.{list-base, list-built, in-order, comments-before, in-comments, Partial, var-read, array-read, array-named, array-opened, array-sized, val-read}
+use Rattle.grammar.specs.Automaton.{val-named, val-equated, whole, State, at-front, specifying, need-process, brace-opened, target, target-element, have-process, need-expression}
+use Rattle.grammar.specs.Automaton.{need-operand, name-read, have-operand, have-expression, Move, go, none, is, kind-of, goes-on, step-have-process, step-have-expression, step-have-operand}
+use Rattle.grammar.specs.Automaton.{step-operand, step-expression, step-process, with-name, with-constant, step-partial, step-front, step, Reading, accepted, refused, final-process}
+use Rattle.grammar.specs.Automaton.{final-expression, final-operand, final, onward, run}
 
 -- the text before a hole, followed by w
 abbrev pub before-front : List Specification → List Token → List Token
@@ -172,7 +181,8 @@ pub chain-fine : (k : ChainContext) (o : ℕ) (c : Chain) → is-diadic o ≡ tr
 chain-fine (after a k) o c p h q = ((p, h .0, q), h .1)
 chain-fine (link a k) o c p h q = chain-fine k o (more a c) p (h .2) (h .0, h .1, q)
 
-list-text : (k : ListContext) (ps : Processes) (w : List Token) → before-list k (text-processes ps (mark kind.close-brace ∷ w)) ≡ before-process (list-base k) (text-process (braces (list-built k ps)) w)
+list-text : (k : ListContext) (ps : Processes) (w : List Token)
+    → before-list k (text-processes ps (mark kind.close-brace ∷ w)) ≡ before-process (list-base k) (text-process (braces (list-built k ps)) w)
 list-text (opened k) ps w = refl
 list-text (also p k) ps w = list-text k (followed p ps) w
 
@@ -218,7 +228,8 @@ good-process (mark m) k q =
     (λ _. good-pick _ (eqb m kind.while) _ _ (λ h. ((λ w. rw (eqb-true m kind.while h)), q))
     (λ _. good-pick _ (eqb m kind.comment) _ _ (λ h. ((λ w. rw (eqb-true m kind.comment h)), q)) (λ _. tt))))))
 
-good-have-expression : (k : ExpressionContext) (e : Expression) (t : Token) → well-formed-expression e → fine-expression k → Good (λ w. before-expression k (text-expression e (t ∷ w))) (step-have-expression k e t)
+good-have-expression : (k : ExpressionContext) (e : Expression) (t : Token) → well-formed-expression e → fine-expression k
+    → Good (λ w. before-expression k (text-expression e (t ∷ w))) (step-have-expression k e t)
 good-have-expression (in-assign n k) e t p q = good-have-process k (assign n e) t p q
 good-have-expression (in-target n k) e t p q = good-pick _ (is kind.close-subscript t) _ _ (λ h. ((λ w. rw (← is-mark kind.close-subscript t h)), (p, q))) (λ h. tt)
 good-have-expression (in-assign-element n s k) e t p q = good-have-process k (assign-element n s e) t (q .0, p) (q .1)
@@ -234,7 +245,8 @@ good-have-operand (next o k) a t p q =
     good-pick _ (goes-on o t) _ _
     (λ h. let j = both (is-associative o) (is o t) h in ((λ w. rw (is-mark o t (j .1))), (q .0, (j .0, p, q .1))))
     (λ h. let b = chain-fine k o (last a) (q .0) (q .1) p in
-    good-from _ _ (step-have-expression (chain-base k) (chain-built k o (last a)) t) (λ w. chain-text k o (last a) (t ∷ w)) (good-have-expression (chain-base k) (chain-built k o (last a)) t (b .0) (b .1)))
+    good-from _ _ (step-have-expression (chain-base k) (chain-built k o (last a)) t) (λ w. chain-text k o (last a) (t ∷ w))
+    (good-have-expression (chain-base k) (chain-built k o (last a)) t (b .0) (b .1)))
 
 good-operand : (t : Token) (k : OperandContext) → fine-operand k → Good (λ w. before-operand k (t ∷ w)) (step-operand t k)
 good-operand (number v) k q = ((λ w. refl), (tt, q))
@@ -306,7 +318,8 @@ fin-operand (first k) a p q = fin-expression k (single a) p q
 fin-operand (under o k) a p q = fin-expression k (monadic o a) (q .0, p) (q .1)
 fin-operand (next o k) a p q =
     let b = chain-fine k o (last a) (q .0) (q .1) p in
-    subst (λ (l : List Token). Fin l (final-expression (chain-base k) (chain-built k o (last a)))) (sym (chain-text k o (last a) [])) (fin-expression (chain-base k) (chain-built k o (last a)) (b .0) (b .1))
+    subst (λ (l : List Token). Fin l (final-expression (chain-base k) (chain-built k o (last a)))) (sym (chain-text k o (last a) []))
+    (fin-expression (chain-base k) (chain-built k o (last a)) (b .0) (b .1))
 
 fin : (s : State) → fine s → Fin (text-state s []) (final s)
 fin (at-front b n) q = refl
@@ -350,9 +363,18 @@ says-on : (t : Token) (ts : List Token) (s s′ : State) (r : Reading) → step 
 unfolding run
 says-on t ts s s′ (accepted p) h g y = (g ts ∙ y .0, y .1)
 says-on t ts s s′ (refused r) h g y =
-    record { taken = t ∷ y .taken; here = y .here; split = ap (λ (l : List Token). t ∷ l) (y .split); came = λ w. rw h (y .came w); read = λ w. g (y .taken ++ w) ∙ y .read w; proper = y .proper; stuck = y .stuck }
+    record {
+      taken = t ∷ y .taken;
+      here = y .here;
+      split = ap (λ (l : List Token). t ∷ l) (y .split);
+      came = λ w. rw h (y .came w);
+      read = λ w. g (y .taken ++ w) ∙ y .read w;
+      proper = y .proper;
+      stuck = y .stuck;
+    }
 
-says-step : (t : Token) (ts : List Token) (s : State) (m : Move) → fine s → step s t ≡ m → Good (λ w. text-state s (t ∷ w)) m → ((s′ : State) → fine s′ → Says ts s′ (run ts s′)) → Says (t ∷ ts) s (onward m (t ∷ ts) (run ts))
+says-step : (t : Token) (ts : List Token) (s : State) (m : Move) → fine s → step s t ≡ m → Good (λ w. text-state s (t ∷ w)) m → ((s′ : State) → fine s′ → Says ts s′ (run ts s′))
+    → Says (t ∷ ts) s (onward m (t ∷ ts) (run ts))
 says-step t ts s none q h g ih = record { taken = []; here = s; split = refl; came = λ w. refl; read = λ w. refl; proper = q; stuck = h }
 says-step t ts s (go s′) q h g ih = says-on t ts s s′ (run ts s′) h (g .0) (ih s′ (g .1))
 

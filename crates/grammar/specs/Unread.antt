@@ -27,13 +27,15 @@ module _ (kinds values : List ℕ) where
   unread-end i h = let e : length kinds - i ≡ 0 = omega arith in rw e
 
   -- a test of the next token is a test of its kind, 0 where there is none
-  by-kind : (f : Token → Bool) (g : ℕ → Bool) → ((i k v : ℕ) → f (token-of i k v) ≡ g k) → g 0 ≡ false → (i : ℕ) (b : Bool) → ltb i (length kinds) ≡ b → head-is f (unread kinds values i) ≡ g (getD kinds i 0)
+  by-kind : (f : Token → Bool) (g : ℕ → Bool) → ((i k v : ℕ) → f (token-of i k v) ≡ g k) → g 0 ≡ false → (i : ℕ) (b : Bool) → ltb i (length kinds) ≡ b
+      → head-is f (unread kinds values i) ≡ g (getD kinds i 0)
   by-kind f g p q i true h = rw (unread-cons i (ltb-true i (length kinds) h)) (p i (getD kinds i 0) (getD values i 0))
   by-kind f g p q i false h = rw (unread-end i (ltb-false i (length kinds) h), List·getD-eq-default kinds 0 (ltb-false i (length kinds) h)) (sym q)
 
 -- a kind stands only inside the array
 pub inside : (kinds : List ℕ) (i k : ℕ) → getD kinds i 0 ≡ k → 0 < k → i < length kinds
-inside kinds i k e p = by-test (λ (b : Bool). i < length kinds) (ltb i (length kinds)) (λ h. ltb-true i (length kinds) h) (λ h. let z = List·getD-eq-default kinds 0 (ltb-false i (length kinds) h) in absurd (omega arith))
+inside kinds i k e p = by-test (λ (b : Bool). i < length kinds) (ltb i (length kinds)) (λ h. ltb-true i (length kinds) h)
+    (λ h. let z = List·getD-eq-default kinds 0 (ltb-false i (length kinds) h) in absurd (omega arith))
 
 pub token-case : (P : ℕ → Token → Type 0) (i k v : ℕ) → P 1 (number v) → P 2 (name i) → (¬ (k ≡ 1) → ¬ (k ≡ 2) → P k (mark k)) → P k (token-of i k v)
 token-case P i k v a b c = go (eqb k 1) (eqb k 2) refl refl
@@ -62,10 +64,10 @@ at-mark : (i k v : ℕ) → 2 < k → token-of i k v ≡ mark k
 at-mark i k v h = rw (ne-eqb k 1 (omega arith), ne-eqb k 2 (omega arith))
 
 module _ (kinds values : List ℕ) (i : ℕ) where
-  pub unread-number : getD kinds i 0 ≡ 1 → unread kinds values i ≡ number (getD values i 0) ∷ unread kinds values (i + 1)
+  pub unread-number : getD kinds i 0 ≡ kind.number → unread kinds values i ≡ number (getD values i 0) ∷ unread kinds values (i + 1)
   unread-number e = unread-cons kinds values i (inside kinds i 1 e (omega arith)) ∙ rw e
 
-  pub unread-name : getD kinds i 0 ≡ 2 → unread kinds values i ≡ name i ∷ unread kinds values (i + 1)
+  pub unread-name : getD kinds i 0 ≡ kind.name → unread kinds values i ≡ name i ∷ unread kinds values (i + 1)
   unread-name e = unread-cons kinds values i (inside kinds i 2 e (omega arith)) ∙ rw e
 
   pub unread-mark : (m : ℕ) → getD kinds i 0 ≡ m → 2 < m → unread kinds values i ≡ mark m ∷ unread kinds values (i + 1)
@@ -84,31 +86,40 @@ module _ (kinds values : List ℕ) (i : ℕ) where
   pub unread-not : (m : ℕ) → 2 < m → ¬ (getD kinds i 0 ≡ m) → head-is (is m) (unread kinds values i) ≡ false
   unread-not m h z = unread-is m h ∙ ne-eqb _ m z
 
-  pub unread-no-name : ¬ (getD kinds i 0 ≡ 2) → head-is is-name (unread kinds values i) ≡ false
+  pub unread-no-name : ¬ (getD kinds i 0 ≡ kind.name) → head-is is-name (unread kinds values i) ≡ false
   unread-no-name z = by-kind kinds values is-name (λ k. eqb k 2) at-name refl i (ltb i (length kinds)) refl ∙ ne-eqb _ 2 z
 
-  pub unread-no-constant : ¬ (getD kinds i 0 ≡ 1) → ¬ (getD kinds i 0 ≡ 2) → head-is is-constant (unread kinds values i) ≡ false
-  unread-no-constant y z = by-kind kinds values is-constant (λ k. pick (eqb k 1) true (eqb k 2)) at-constant refl i (ltb i (length kinds)) refl ∙ rw (ne-eqb (getD kinds i 0) 1 y, ne-eqb (getD kinds i 0) 2 z)
+  pub unread-no-constant : ¬ (getD kinds i 0 ≡ kind.number) → ¬ (getD kinds i 0 ≡ kind.name) → head-is is-constant (unread kinds values i) ≡ false
+  unread-no-constant y z =
+      by-kind kinds values is-constant (λ k. pick (eqb k 1) true (eqb k 2)) at-constant refl i (ltb i (length kinds)) refl ∙ rw (ne-eqb (getD kinds i 0) 1 y, ne-eqb (getD kinds i 0) 2 z)
 
   pub unread-goes-on : (o : ℕ) → 2 < o → head-is (goes-on o) (unread kinds values i) ≡ pick (is-associative o) (eqb (getD kinds i 0) o) false
-  unread-goes-on o h = by-kind kinds values (goes-on o) (λ k. pick (is-associative o) (eqb k o) false) (λ i k v. rw (at-is o i k v h)) (rw (ne-eqb 0 o (omega arith)) (pick-false (is-associative o))) i (ltb i (length kinds)) refl
+  unread-goes-on o h =
+      by-kind kinds values (goes-on o) (λ k. pick (is-associative o) (eqb k o) false) (λ i k v. rw (at-is o i k v h)) (rw (ne-eqb 0 o (omega arith)) (pick-false (is-associative o))) i
+      (ltb i (length kinds)) refl
 
   -- what starts no operand and no process
-  pub no-operand : (k : OperandContext) → ¬ (getD kinds i 0 ≡ 1) → ¬ (getD kinds i 0 ≡ 2) → ¬ (getD kinds i 0 ≡ kind.open-bracket) → run (unread kinds values i) (need-operand k) ≡ refused (unread kinds values i)
+  pub no-operand : (k : OperandContext) → ¬ (getD kinds i 0 ≡ kind.number) → ¬ (getD kinds i 0 ≡ kind.name) → ¬ (getD kinds i 0 ≡ kind.open-bracket)
+      → run (unread kinds values i) (need-operand k) ≡ refused (unread kinds values i)
   no-operand k a b c =
       by-test (λ (x : Bool). run (unread kinds values i) (need-operand k) ≡ refused (unread kinds values i)) (ltb i (length kinds))
-      (λ h. rw (unread-cons kinds values i (ltb-true i (length kinds) h), ne-eqb (getD kinds i 0) 1 a, ne-eqb (getD kinds i 0) 2 b) (run-operand-stop _ k _ (ne-eqb (getD kinds i 0) kind.open-bracket c)))
+      (λ h. rw (unread-cons kinds values i (ltb-true i (length kinds) h), ne-eqb (getD kinds i 0) 1 a, ne-eqb (getD kinds i 0) 2 b)
+      (run-operand-stop _ k _ (ne-eqb (getD kinds i 0) kind.open-bracket c)))
       (λ h. rw (unread-end kinds values i (ltb-false i (length kinds) h)) (run-operand-end k))
 
-  pub no-process : (K : ProcessContext) → ¬ (getD kinds i 0 ≡ kind.skip) → ¬ (getD kinds i 0 ≡ kind.stop) → ¬ (getD kinds i 0 ≡ 2) → ¬ (getD kinds i 0 ≡ kind.open-brace) → ¬ (getD kinds i 0 ≡ kind.if) → ¬ (getD kinds i 0 ≡ kind.while) → ¬ (getD kinds i 0 ≡ kind.comment) → run (unread kinds values i) (need-process K) ≡ refused (unread kinds values i)
+  pub no-process : (K : ProcessContext) → ¬ (getD kinds i 0 ≡ kind.skip) → ¬ (getD kinds i 0 ≡ kind.stop) → ¬ (getD kinds i 0 ≡ kind.name) → ¬ (getD kinds i 0 ≡ kind.open-brace)
+      → ¬ (getD kinds i 0 ≡ kind.if) → ¬ (getD kinds i 0 ≡ kind.while) → ¬ (getD kinds i 0 ≡ kind.comment)
+      → run (unread kinds values i) (need-process K) ≡ refused (unread kinds values i)
   no-process K s t n b c w m =
       by-test (λ (x : Bool). run (unread kinds values i) (need-process K) ≡ refused (unread kinds values i)) (ltb i (length kinds))
       (λ h. rw (unread-cons kinds values i (ltb-true i (length kinds) h), ne-eqb (getD kinds i 0) 2 n) (by (eqb (getD kinds i 0) 1) refl _))
       (λ h. rw (unread-end kinds values i (ltb-false i (length kinds) h)) (run-process-end K))
     where
-      by : (x : Bool) → eqb (getD kinds i 0) 1 ≡ x → (l : List Token) → run (pick x (number (getD values i 0)) (mark (getD kinds i 0)) ∷ l) (need-process K) ≡ refused (pick x (number (getD values i 0)) (mark (getD kinds i 0)) ∷ l)
+      by : (x : Bool) → eqb (getD kinds i 0) 1 ≡ x → (l : List Token)
+          → run (pick x (number (getD values i 0)) (mark (getD kinds i 0)) ∷ l) (need-process K) ≡ refused (pick x (number (getD values i 0)) (mark (getD kinds i 0)) ∷ l)
       by true e l = run-process-number l K (getD values i 0)
-      by false e l = run-process-stop l K (getD kinds i 0) (ne-eqb (getD kinds i 0) kind.skip s) (ne-eqb (getD kinds i 0) kind.stop t) (ne-eqb (getD kinds i 0) kind.open-brace b) (ne-eqb (getD kinds i 0) kind.if c) (ne-eqb (getD kinds i 0) kind.while w) (ne-eqb (getD kinds i 0) kind.comment m)
+      by false e l = run-process-stop l K (getD kinds i 0) (ne-eqb (getD kinds i 0) kind.skip s) (ne-eqb (getD kinds i 0) kind.stop t) (ne-eqb (getD kinds i 0) kind.open-brace b)
+          (ne-eqb (getD kinds i 0) kind.if c) (ne-eqb (getD kinds i 0) kind.while w) (ne-eqb (getD kinds i 0) kind.comment m)
 
 length-tokens : (kinds values : List ℕ) (i m : ℕ) → length (tokens kinds values i m) ≡ m
 unfolding tokens

@@ -14,7 +14,8 @@ pub extern "C" fn gutilamboy_translate(
     code: &mut [u8],
     out: &mut [u32; 7],
 )
-    ensures { λ _. ⌜ calls.translateLeft (now (out .exit)) (now (table .exit)) (now (code .exit)) ≡ calls.translateCall (now (source .entry)) (length (now (table .entry))) (length (now (code .entry))) ⌝ }
+    ensures { λ _. ⌜ calls.translateLeft (now (out .exit)) (now (table .exit)) (now (code .exit))
+        ≡ calls.translateCall (now (source .entry)) (length (now (table .entry))) (length (now (code .entry))) ⌝ }
 {
     let t = translate::translate(source, table, code);
     *out = [t.status, t.place, t.tokens, t.rows, t.data, t.depth, t.code];

@@ -10,6 +10,7 @@ use lib.ListN.{getD}
 use native.Mathlib.Nat.{add-zero}
 use Rattle.word.specs.Choice.{pick}
 use Rattle.spelling.specs.Kinds as kind
+use Rattle.token.specs.Refusals as refusal
 use Rattle.grammar.specs.Grammar.{Specification, val}
 use Rattle.grammar.specs.Grammar as grammar
 use Rattle.program.specs.Tree as tree
@@ -17,8 +18,9 @@ use Rattle.program.specs.Rows.{row, declared-rows}
 use Rattle.names.specs.Scope.{Meaning, unknown, variable, array, constant, Scope, meaning-of, constant-word, declare}
 use Rattle.names.specs.Complaints.{Complaint, Verdict, fine, refused, is-known, as-constant, when, bad-length, at, of-constant, has-word, of-specification}
 use Rattle.names.specs.First.{first}
+use Rattle.name_table.specs.Sorts as name-sort
 use Rattle.names.specs.Resolve.{declared}
-use Rattle.name_table.specs.View.{meant, by-sort}
+use Rattle.name_table.specs.View.{bare, by-sort}
 use Rattle.judging.specs.declared.Verdict as code
 use Rattle.judging.specs.declared.Verdict.the-variants.{Fine, Refused}
 use Rattle.judging.specs.declared.Constant as read
@@ -53,9 +55,9 @@ over names words more = pick (ltb 255 names) true (ltb 8192 (words + more))
 
 -- a constant as the code reads it: 0 and its word, or the number of its complaint
 abbrev pub constant-by : Meaning → read.Constant
-constant-by unknown = record { status = 8; word = 0 }
-constant-by (variable v) = record { status = 10; word = 0 }
-constant-by (array a) = record { status = 10; word = 0 }
+constant-by unknown = record { status = refusal.not-declared; word = 0 }
+constant-by (variable v) = record { status = refusal.wrong-kind; word = 0 }
+constant-by (array a) = record { status = refusal.wrong-kind; word = 0 }
 constant-by (constant w) = record { status = 0; word = w }
 
 abbrev pub constant-read : (ℕ → List ℕ) → Scope → grammar.Constant → read.Constant
@@ -69,21 +71,37 @@ some status = pick (eqb status 0) [] (status ∷ [])
 -- what the name of a specification deserves and then its constant: k the specification's kind, m what the name stands for already
 unfoldable pub complaints-by : ℕ → Meaning → ℕ → ℕ → ℕ → ℕ → ℕ → ℕ → List Complaint
 complaints-by k m status word names words p q =
-    pick (eqb k kind.var) (listed p (when (is-known m) 9 ++ when (over names words 1) 12))
+    pick (eqb k kind.var) (listed p (when (is-known m) refusal.declared-twice ++ when (over names words 1) refusal.too-much))
     (pick (eqb k kind.array)
-    (listed p (when (is-known m) 9 ++ pick (eqb status 0) (when (bad-length word) 11 ++ when (over names words word) 12) (when (over names words 0) 12)) ++ listed q (some status))
-    (listed p (when (is-known m) 9 ++ when (over names words 0) 12) ++ listed q (some status)))
+    (listed p (when (is-known m) refusal.declared-twice
+    ++ pick (eqb status 0) (when (bad-length word) refusal.bad-length ++ when (over names words word) refusal.too-much) (when (over names words 0) refusal.too-much))
+    ++ listed q (some status))
+    (listed p (when (is-known m) refusal.declared-twice ++ when (over names words 0) refusal.too-much) ++ listed q (some status)))
+
+-- offset and length matter to neither
+pub constant-bare : (m : Meaning) → constant-by (bare m) ≡ constant-by m
+constant-bare unknown = refl
+constant-bare (variable v) = refl
+constant-bare (array a) = refl
+constant-bare (constant w) = refl
+
+pub complaints-bare : (k : ℕ) (m : Meaning) (status word names words p q : ℕ) → complaints-by k (bare m) status word names words p q ≡ complaints-by k m status word names words p q
+unfolding complaints-by
+complaints-bare k unknown status word names words p q = refl
+complaints-bare k (variable v) status word names words p q = refl
+complaints-bare k (array a) status word names words p q = refl
+complaints-bare k (constant w) status word names words p q = refl
 
 -- what a specification enters: the name's sort, its row, its word and size; and how many rows and words it declares
 unfoldable pub item-of : ℕ → ℕ → ℕ → ℕ → Item
 item-of k word rows words =
-    pick (eqb k kind.var) (record { sort = 1; row = rows; word = words; size = 1; rows = 1; words = 1 })
-    (pick (eqb k kind.array) (record { sort = 2; row = rows; word = words; size = word; rows = 1; words = word })
-    (record { sort = 3; row = 0; word = word; size = 0; rows = 0; words = 0 }))
+    pick (eqb k kind.var) (record { sort = name-sort.var; row = rows; word = words; size = 1; rows = 1; words = 1 })
+    (pick (eqb k kind.array) (record { sort = name-sort.array; row = rows; word = words; size = word; rows = 1; words = word })
+    (record { sort = name-sort.val; row = 0; word = word; size = 0; rows = 0; words = 0 }))
 
 -- the row of the syntax table that it makes, if any
 abbrev pub item-row : Item → List ℕ
-item-row e = pick (eqb (e .sort) 3) [] (row (e .sort) (e .word) (e .size) 0)
+item-row e = pick (eqb (e .sort) name-sort.val) [] (row (e .sort) (e .word) (e .size) 0)
 
 -- the specification at token i, which is no comment
 abbrev pub constant-at : List ℕ → List ℕ → ℕ → grammar.Constant
@@ -113,7 +131,9 @@ module _ (text : ℕ → List ℕ) (place : ℕ → ℕ) (s : Scope) where
   constant-listed : (kinds values : List ℕ) (j : ℕ) → of-constant text place s (constant-at kinds values j) ≡ listed (place j) (some (constant-read text s (constant-at kinds values j) .status))
   constant-listed kinds values j = by (eqb (getD kinds j 0) kind.number)
     where
-      by : (b : Bool) → of-constant text place s (pick b (grammar.literal (getD values j 0)) (grammar.named j)) ≡ listed (place j) (some (constant-read text s (pick b (grammar.literal (getD values j 0)) (grammar.named j)) .status))
+      by : (b : Bool)
+          → of-constant text place s (pick b (grammar.literal (getD values j 0)) (grammar.named j))
+          ≡ listed (place j) (some (constant-read text s (pick b (grammar.literal (getD values j 0)) (grammar.named j)) .status))
       by true = refl
       by false = at-listed j (as-constant (meaning-of text s j)) ∙ ap (listed (place j)) (as-some (meaning-of text s j))
 
@@ -160,24 +180,34 @@ module _ (text : ℕ → List ℕ) (place : ℕ → ℕ) (s : Scope) where
         w = constant-read text s c .word
 
         numbers : Bool → ℕ → List ℕ
-        numbers h v = when (is-known m) 9 ++ pick h (when (bad-length v) 11 ++ when (over (s .names) (s .words) v) 12) (when (over (s .names) (s .words) 0) 12)
+        numbers h v = when (is-known m) refusal.declared-twice
+            ++ pick h (when (bad-length v) refusal.bad-length ++ when (over (s .names) (s .words) v) refusal.too-much) (when (over (s .names) (s .words) 0) refusal.too-much)
 
         by : (a b : Bool) → of-specification text place (pick a (grammar.var (i + 1)) (pick b (grammar.array (i + 1) c) (val (i + 1) c))) s
-            ≡ pick a (listed (place (i + 1)) (when (is-known m) 9 ++ when (over (s .names) (s .words) 1) 12))
+            ≡ pick a (listed (place (i + 1)) (when (is-known m) refusal.declared-twice ++ when (over (s .names) (s .words) 1) refusal.too-much))
             (pick b
-            (listed (place (i + 1)) (when (is-known m) 9 ++ pick (eqb st 0) (when (bad-length w) 11 ++ when (over (s .names) (s .words) w) 12) (when (over (s .names) (s .words) 0) 12)) ++ listed (place (i + 3)) (some st))
-            (listed (place (i + 1)) (when (is-known m) 9 ++ when (over (s .names) (s .words) 0) 12) ++ listed (place (i + 3)) (some st)))
-        by true b = at-listed (i + 1) (when (is-known m) 9 ++ when (over (s .names) (s .words) 1) 12)
+            (listed (place (i + 1))
+            (when (is-known m) refusal.declared-twice
+            ++ pick (eqb st 0) (when (bad-length w) refusal.bad-length ++ when (over (s .names) (s .words) w) refusal.too-much) (when (over (s .names) (s .words) 0) refusal.too-much))
+            ++ listed (place (i + 3)) (some st))
+            (listed (place (i + 1)) (when (is-known m) refusal.declared-twice ++ when (over (s .names) (s .words) 0) refusal.too-much) ++ listed (place (i + 3)) (some st)))
+        by true b = at-listed (i + 1) (when (is-known m) refusal.declared-twice ++ when (over (s .names) (s .words) 1) refusal.too-much)
         by false true =
-            ap₂ _++_ (at-listed (i + 1) (numbers (has-word text place s c) (constant-word text s c)) ∙ ap (listed (place (i + 1))) (ap₂ numbers (known-by c) (sym (word-by c)))) (constant-listed kinds values (i + 3))
-        by false false = ap₂ _++_ (at-listed (i + 1) (when (is-known m) 9 ++ when (over (s .names) (s .words) 0) 12)) (constant-listed kinds values (i + 3))
+            ap₂ _++_ (at-listed (i + 1) (numbers (has-word text place s c) (constant-word text s c)) ∙ ap (listed (place (i + 1))) (ap₂ numbers (known-by c) (sym (word-by c))))
+            (constant-listed kinds values (i + 3))
+        by false false = ap₂ _++_ (at-listed (i + 1) (when (is-known m) refusal.declared-twice ++ when (over (s .names) (s .words) 0) refusal.too-much)) (constant-listed kinds values (i + 3))
 
     abbrev e : Item
     e = item-of k (constant-read text s c .word) (s .rows) (s .words)
 
     -- THE LAW of what is declared
     pub specified-scope : declare text (specification-at kinds values i) s
-        ≡ record { entries = record { name = text (i + 1); meaning = meant (by-sort (e .sort) (e .row) (e .word) (e .size)) } ∷ s .entries; rows = s .rows + e .rows; names = s .names + 1; words = s .words + e .words }
+        ≡ record {
+          entries = record { name = text (i + 1); meaning = by-sort (e .sort) (e .row) (e .word) (e .size) } ∷ s .entries;
+          rows = s .rows + e .rows;
+          names = s .names + 1;
+          words = s .words + e .words;
+        }
     unfolding item-of
     specified-scope = rw (word-by c) (by (eqb k kind.var) (eqb k kind.array))
       where
@@ -186,11 +216,17 @@ module _ (text : ℕ → List ℕ) (place : ℕ → ℕ) (s : Scope) where
 
         it : Bool → Bool → Item
         it a b =
-            pick a (record { sort = 1; row = s .rows; word = s .words; size = 1; rows = 1; words = 1 })
-            (pick b (record { sort = 2; row = s .rows; word = s .words; size = w; rows = 1; words = w }) (record { sort = 3; row = 0; word = w; size = 0; rows = 0; words = 0 }))
+            pick a (record { sort = name-sort.var; row = s .rows; word = s .words; size = 1; rows = 1; words = 1 })
+            (pick b (record { sort = name-sort.array; row = s .rows; word = s .words; size = w; rows = 1; words = w })
+            (record { sort = name-sort.val; row = 0; word = w; size = 0; rows = 0; words = 0 }))
 
         by : (a b : Bool) → declare text (pick a (grammar.var (i + 1)) (pick b (grammar.array (i + 1) c) (val (i + 1) c))) s
-            ≡ record { entries = record { name = text (i + 1); meaning = meant (by-sort (it a b .sort) (it a b .row) (it a b .word) (it a b .size)) } ∷ s .entries; rows = s .rows + it a b .rows; names = s .names + 1; words = s .words + it a b .words }
+            ≡ record {
+              entries = record { name = text (i + 1); meaning = by-sort (it a b .sort) (it a b .row) (it a b .word) (it a b .size) } ∷ s .entries;
+              rows = s .rows + it a b .rows;
+              names = s .names + 1;
+              words = s .words + it a b .words;
+            }
         by true b = refl
         by false true = refl
         by false false = refl
@@ -204,10 +240,13 @@ module _ (text : ℕ → List ℕ) (place : ℕ → ℕ) (s : Scope) where
 
         it : Bool → Bool → Item
         it a b =
-            pick a (record { sort = 1; row = s .rows; word = s .words; size = 1; rows = 1; words = 1 })
-            (pick b (record { sort = 2; row = s .rows; word = s .words; size = w; rows = 1; words = w }) (record { sort = 3; row = 0; word = w; size = 0; rows = 0; words = 0 }))
+            pick a (record { sort = name-sort.var; row = s .rows; word = s .words; size = 1; rows = 1; words = 1 })
+            (pick b (record { sort = name-sort.array; row = s .rows; word = s .words; size = w; rows = 1; words = w })
+            (record { sort = name-sort.val; row = 0; word = w; size = 0; rows = 0; words = 0 }))
 
-        by : (a b : Bool) → declared-rows (declared text (pick a (grammar.var (i + 1)) (pick b (grammar.array (i + 1) c) (val (i + 1) c))) s ds) (s .words) ≡ item-row (it a b) ++ declared-rows ds (s .words + it a b .words)
+        by : (a b : Bool)
+            → declared-rows (declared text (pick a (grammar.var (i + 1)) (pick b (grammar.array (i + 1) c) (val (i + 1) c))) s ds) (s .words)
+            ≡ item-row (it a b) ++ declared-rows ds (s .words + it a b .words)
         by true b = refl
         by false true = refl
         by false false = rw (add-zero (s .words))

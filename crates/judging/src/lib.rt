@@ -1,8 +1,11 @@
 // What a specification deserves, and what it declares: the judging part of filling the name table.
 use name_table::Meaning;
+use name_table::sort;
 use spelling::kind;
+use token::refusal;
 ghost use mathlib.Core.Path.{_≡_};
 ghost use mathlib.Core.List.{_++_};
+ghost use Rattle.token.specs.Refusals as refusals;
 ghost use Rattle.names.specs.Complaints.{«is-known», «bad-length», when};
 ghost use Rattle.names.specs.First.{first};
 ghost use Rattle.name_table.specs.View.{meant};
@@ -36,8 +39,8 @@ fn known(m: Meaning) -> bool
 {
     match m {
         Meaning::Unknown => false,
-        Meaning::Variable(_, _) => true,
-        Meaning::Array(_, _, _) => true,
+        Meaning::Variable(_) => true,
+        Meaning::Array(_) => true,
         Meaning::Constant(_) => true,
     }
 }
@@ -60,29 +63,30 @@ fn bad_length(n: u32) -> bool
 
 // What a name that declares `more` words deserves.
 fn new_name(m: Meaning, names: usize, words: u32, more: u32, place: u32) -> Verdict
-    ensures { λ r. ⌜ «verdict-of» r ≡ first (listed place (when («is-known» (meant m)) 9 ++ when (over names words more) 12)) ⌝ }
+    ensures { λ r. ⌜ «verdict-of» r ≡ first (listed place (when («is-known» (meant m)) refusals.«declared-twice» ++ when (over names words more) refusals.«too-much»)) ⌝ }
 {
     if known(m) {
-        return Verdict::Refused(9, place);
+        return Verdict::Refused(refusal::DECLARED_TWICE, place);
     }
     if full(names, words, more) {
-        return Verdict::Refused(12, place);
+        return Verdict::Refused(refusal::TOO_MUCH, place);
     }
     Verdict::Fine
 }
 
 // What an array of that length deserves.
 fn new_array(m: Meaning, names: usize, words: u32, length: u32, place: u32) -> Verdict
-    ensures { λ r. ⌜ «verdict-of» r ≡ first (listed place (when («is-known» (meant m)) 9 ++ (when («bad-length» length) 11 ++ when (over names words length) 12))) ⌝ }
+    ensures { λ r. ⌜ «verdict-of» r ≡ first (listed place (when («is-known» (meant m)) refusals.«declared-twice»
+        ++ (when («bad-length» length) refusals.«bad-length» ++ when (over names words length) refusals.«too-much»))) ⌝ }
 {
     if known(m) {
-        return Verdict::Refused(9, place);
+        return Verdict::Refused(refusal::DECLARED_TWICE, place);
     }
     if bad_length(length) {
-        return Verdict::Refused(11, place);
+        return Verdict::Refused(refusal::BAD_LENGTH, place);
     }
     if full(names, words, length) {
-        return Verdict::Refused(12, place);
+        return Verdict::Refused(refusal::TOO_MUCH, place);
     }
     Verdict::Fine
 }
@@ -91,13 +95,16 @@ pub fn constant_of(m: Meaning) -> Constant
     ensures { λ r. ⌜ r ≡ «constant-by» (meant m) ⌝ }
 {
     match m {
-        Meaning::Unknown => Constant { status: 8, word: 0 },
-        Meaning::Variable(_, _) => Constant {
-            status: 10,
+        Meaning::Unknown => Constant {
+            status: refusal::NOT_DECLARED,
             word: 0,
         },
-        Meaning::Array(_, _, _) => Constant {
-            status: 10,
+        Meaning::Variable(_) => Constant {
+            status: refusal::WRONG_KIND,
+            word: 0,
+        },
+        Meaning::Array(_) => Constant {
+            status: refusal::WRONG_KIND,
             word: 0,
         },
         Meaning::Constant(word) => Constant { status: 0, word },
@@ -150,7 +157,7 @@ pub fn item_of(k: u8, word: u32, rows: u32, words: u32) -> Item
 {
     if k == kind::VAR {
         return Item {
-            sort: 1,
+            sort: sort::VAR,
             row: rows,
             word: words,
             size: 1,
@@ -160,7 +167,7 @@ pub fn item_of(k: u8, word: u32, rows: u32, words: u32) -> Item
     }
     if k == kind::ARRAY {
         return Item {
-            sort: 2,
+            sort: sort::ARRAY,
             row: rows,
             word: words,
             size: word,
@@ -169,7 +176,7 @@ pub fn item_of(k: u8, word: u32, rows: u32, words: u32) -> Item
         };
     }
     Item {
-        sort: 3,
+        sort: sort::VAL,
         row: 0,
         word: word,
         size: 0,

@@ -92,7 +92,8 @@ run-count n c w m r = ap (λ (x : RunAfter). x .state .count) (run-is-iterations
 pub run-one : (c w : List ℕ) (m : Machine) → let a = stepOf c w m .after in runOf 1 c w m ≡ run-after (ran (a .state) (step-count (a .state .status))) (a .words)
 unfolding runOf stepOf runFrom
 run-one c w m =
-    by-test (λ t. let a = pick t (onceOf c w m) (stops w (fault m r)) .after in pick t (runFrom 1 0 c w m) (run-after (ran (fault m r) 0) w) ≡ run-after (ran (a .state) (step-count (a .state .status))) (a .words)) (eqb r 0)
+    by-test (λ t. let a = pick t (onceOf c w m) (stops w (fault m r)) .after in
+    pick t (runFrom 1 0 c w m) (run-after (ran (fault m r) 0) w) ≡ run-after (ran (a .state) (step-count (a .state .status))) (a .words)) (eqb r 0)
     (λ _. once)
     (λ e. rw (lt-leb r 1 (refusal-large c w e)))
   where

@@ -7,7 +7,8 @@ use lib.ListN.{getD, set, take}
 use lib.Dec.{ltb, eqb}
 use Rattle.word.specs.Choice.{pick}
 use Rattle.word.specs.Access.{Access, loaded, stored}
-use Rattle.program.specs.Tree.{Monadic, Diadic, Variable, Array, Expression, constant, variable, element, monadic, diadic, bracket, Process, skip, stop, assign, assign-element, braces, conditional, loop, Processes, none, also, Program, data-words}
+use Rattle.program.specs.Tree.{Monadic, Diadic, Variable, Array, Expression, constant, variable, element, monadic, diadic, bracket, Process, skip, stop, assign, assign-element, braces}
+use Rattle.program.specs.Tree.{conditional, loop, Processes, none, also, Program, data-words}
 use Rattle.meaning.specs.Operators.{work-monadic, work-diadic}
 
 -- a thing to do
@@ -64,7 +65,8 @@ move-expression (monadic o e) d t c s = state d t (evaluate e ∷ work₁ o ∷ 
 move-expression (diadic o e f) d t c s = state d t (evaluate e ∷ evaluate f ∷ work₂ o ∷ c) s going
 move-expression (element a e) d t c s = state d t (evaluate e ∷ check a ∷ load a ∷ c) s going
 
--- "`n := e`: e, set; `v[s] := x`: s, check, x, store; braces: their processes in order; `if`: e, choose; `while`: e, choose between the body with the `while` again, and nothing"; "`skip` does nothing. `stop` ends as stop"
+-- "`n := e`: e, set; `v[s] := x`: s, check, x, store; braces: their processes in order; `if`: e, choose; `while`: e, choose between the body with the `while` again, and nothing"; "`skip`
+-- does nothing. `stop` ends as stop"
 abbrev pub move-process : Process → List ℕ → List Access → List Item → List ℕ → State
 move-process (assign v e) d t c s = state d t (evaluate e ∷ set-variable v ∷ c) s going
 move-process (assign-element a e f) d t c s = state d t (evaluate e ∷ check a ∷ evaluate f ∷ store a ∷ c) s going

@@ -5,7 +5,8 @@ use mathlib.Core.List.{List, [], _∷_, map}
 use Prim.Native.Nat.{ℕ}
 use Rattle.word.specs.Word.{signed-less}
 use Rattle.word.specs.Access.{Access, loaded, stored}
-use Rattle.program.specs.Tree.{plus, less, equal, bit-and, Variable, Array, var, array, constant, variable, element, diadic, bracket, Process, skip, stop, assign, assign-element, braces, conditional, loop, none, also, Program, data-words}
+use Rattle.program.specs.Tree.{plus, less, equal, bit-and, Variable, Array, var, array, constant, variable, element, diadic, bracket, Process, skip, stop, assign, assign-element, braces}
+use Rattle.program.specs.Tree.{conditional, loop, none, also, Program, data-words}
 use Rattle.meaning.specs.Run.{End, finish, stopped, bad-subscript, State, begin, moves}
 
 -- var i; var n; var x; array v[2]
@@ -71,9 +72,11 @@ halted = braces (also (assign x (constant 1)) (also stop (also (assign x (consta
 -- value to be stored is worked out, and a good one comes before it; a `while` goes on until its condition fails or a subscript does; nothing follows a stop
 pub traps :
     map run-of
-    (case guarded (5 ∷ 2 ∷ 7 ∷ 8 ∷ 9 ∷ []) ∷ case guarded (1 ∷ 2 ∷ 7 ∷ 8 ∷ 9 ∷ []) ∷ case both (1 ∷ 0 ∷ 7 ∷ 8 ∷ 0 ∷ []) ∷ case both (2 ∷ 0 ∷ 7 ∷ 8 ∷ 0 ∷ []) ∷ case copied (2 ∷ 0 ∷ 7 ∷ 8 ∷ 9 ∷ []) ∷ case copied (1 ∷ 0 ∷ 7 ∷ 8 ∷ 9 ∷ [])
+    (case guarded (5 ∷ 2 ∷ 7 ∷ 8 ∷ 9 ∷ []) ∷ case guarded (1 ∷ 2 ∷ 7 ∷ 8 ∷ 9 ∷ []) ∷ case both (1 ∷ 0 ∷ 7 ∷ 8 ∷ 0 ∷ []) ∷ case both (2 ∷ 0 ∷ 7 ∷ 8 ∷ 0 ∷ [])
+    ∷ case copied (2 ∷ 0 ∷ 7 ∷ 8 ∷ 9 ∷ []) ∷ case copied (1 ∷ 0 ∷ 7 ∷ 8 ∷ 9 ∷ [])
     ∷ case counted (1 ∷ 2 ∷ 7 ∷ 8 ∷ 9 ∷ []) ∷ case counted (1 ∷ 9 ∷ 7 ∷ 8 ∷ 9 ∷ []) ∷ case halted (5 ∷ 2 ∷ 7 ∷ 8 ∷ 9 ∷ []) ∷ [])
-    ≡ left (5 ∷ 2 ∷ 7 ∷ 8 ∷ 9 ∷ []) [] finish ∷ left (1 ∷ 2 ∷ 9 ∷ 8 ∷ 9 ∷ []) (loaded 4 9 ∷ []) finish ∷ left (1 ∷ 0 ∷ 2 ∷ 8 ∷ 0 ∷ []) (loaded 4 0 ∷ []) finish ∷ left (2 ∷ 0 ∷ 7 ∷ 8 ∷ 0 ∷ []) [] bad-subscript
+    ≡ left (5 ∷ 2 ∷ 7 ∷ 8 ∷ 9 ∷ []) [] finish ∷ left (1 ∷ 2 ∷ 9 ∷ 8 ∷ 9 ∷ []) (loaded 4 9 ∷ []) finish ∷ left (1 ∷ 0 ∷ 2 ∷ 8 ∷ 0 ∷ []) (loaded 4 0 ∷ []) finish
+    ∷ left (2 ∷ 0 ∷ 7 ∷ 8 ∷ 0 ∷ []) [] bad-subscript
     ∷ left (2 ∷ 0 ∷ 7 ∷ 8 ∷ 9 ∷ []) [] bad-subscript ∷ left (1 ∷ 0 ∷ 7 ∷ 8 ∷ 8 ∷ []) (loaded 3 8 ∷ stored 4 9 8 ∷ []) finish ∷ left (2 ∷ 2 ∷ 7 ∷ 8 ∷ 1 ∷ []) (stored 4 9 1 ∷ []) finish
     ∷ left (2 ∷ 9 ∷ 7 ∷ 8 ∷ 1 ∷ []) (stored 4 9 1 ∷ []) bad-subscript ∷ left (5 ∷ 2 ∷ 1 ∷ 8 ∷ 9 ∷ []) [] stopped ∷ []
 unfolding signed-less data-words

@@ -9,7 +9,8 @@ use Rattle.text.specs.Ascii.{ascii}
 use Rattle.text.specs.Text.{fitted}
 use Rattle.text.specs.Laws.{length-digits}
 use Rattle.thumb.specs.declared.Instr.{Instr}
-use Rattle.thumb.specs.declared.Instr.the-variants.{Shli, Shri, Ashri, Addr, Subr, Movi, Addi, Subi, Ldrpci, Strspi, Ldrspi, Addpci, Addspi, Andr, Xorr, Shl, Shr, Negr, Orr, Mul, Mvnr, Str, Ldr, Stri, Ldri, Incsp, Decsp, Svc, Beq, Bne, Bge, Blt, Bu, Bl}
+use Rattle.thumb.specs.declared.Instr.the-variants.{Shli, Shri, Ashri, Addr, Subr, Movi, Addi, Subi, Ldrpci, Strspi, Ldrspi, Addpci, Addspi, Andr, Xorr, Shl, Shr, Negr, Orr, Mul, Mvnr, Str, Ldr}
+use Rattle.thumb.specs.declared.Instr.the-variants.{Stri, Ldri, Incsp, Decsp, Svc, Beq, Bne, Bge, Blt, Bu, Bl}
 use Rattle.mnemonic.specs.Mnemonic.{alone, immediate, pair, offset, triple, branch, instruction}
 
 length-alone : (name : List ℕ) (n : ℕ) → length (alone name n) ≤ length name + 10

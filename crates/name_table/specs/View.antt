@@ -1,6 +1,6 @@
 -- The name table's arrays as the entries of a scope, the latest first. Definitions and laws; rests on the scope of crate `names`.
 use mathlib.Core.Path.{_≡_, refl, ap}
-use mathlib.Core.Bool.{true, false}
+use mathlib.Core.Bool.{Bool, true, false}
 use mathlib.Core.List.{List, [], _∷_}
 use Prim.Native.Nat.{ℕ, zero, suc, _-_, _<_, _≤_}
 use native.Mathlib.Omega.{arith}
@@ -10,14 +10,22 @@ use lib.Seq.{getD-set-same, getD-set-other}
 use Rattle.word.specs.Choice.{pick}
 use Rattle.names.specs.Scope.{Entry, same, lookup}
 use Rattle.names.specs.Scope as scope
+use Rattle.name_table.specs.Sorts as name-sort
 use Rattle.name_table.specs.declared.Meaning.{Meaning}
 use Rattle.name_table.specs.declared.Meaning.the-variants.{Unknown, Variable, Array, Constant}
 
--- the code's answer as what a name stands for
+-- what a name stands for but for offset and length, which are in its row and which the code doesn't keep
+abbrev pub bare : scope.Meaning → scope.Meaning
+bare scope.unknown = scope.unknown
+bare (scope.variable v) = scope.variable (record { row = v .row; offset = 0 })
+bare (scope.array a) = scope.array (record { row = a .row; offset = 0; length = 0 })
+bare (scope.constant w) = scope.constant w
+
+-- the code's answer, as what a name stands for
 abbrev pub meant : Meaning → scope.Meaning
 meant Unknown = scope.unknown
-meant (Variable row offset) = scope.variable (record { row = row; offset = offset })
-meant (Array row offset length) = scope.array (record { row = row; offset = offset; length = length })
+meant (Variable row) = scope.variable (record { row = row; offset = 0 })
+meant (Array row) = scope.array (record { row = row; offset = 0; length = 0 })
 meant (Constant word) = scope.constant word
 
 -- the bytes of a name
@@ -31,8 +39,8 @@ text-at source places values t = text source (getD places t 0) (getD values t 0)
 abbrev pub place-at : List ℕ → ℕ → ℕ
 place-at places t = getD places t 0
 
--- Expected form: "The name table is filled arrays of 256 source places, lengths and declaration rows"; a name's sort is 1 var, 2 array, 3 val,
--- its word the word offset or a val's word, its size an array's length
+-- Expected form: "The name table is filled arrays of 256 source places, lengths and declaration rows"; a name's sort (Sorts)
+-- and its word, the word offset or a val's word. Its size, an array's length, is in no array of the code: the contracts say what they say for every list of sizes
 pub record Table : Type 0 where
   pub places : List ℕ
   pub lengths : List ℕ
@@ -41,18 +49,37 @@ pub record Table : Type 0 where
   pub words : List ℕ
   pub sizes : List ℕ
 
-abbrev pub by-sort : ℕ → ℕ → ℕ → ℕ → Meaning
-by-sort sort row word size = pick (eqb sort 1) (Variable row word) (pick (eqb sort 2) (Array row word size) (Constant word))
+abbrev pub by-sort : ℕ → ℕ → ℕ → ℕ → scope.Meaning
+by-sort sort row word size =
+    pick (eqb sort name-sort.var) (scope.variable (record { row = row; offset = word }))
+    (pick (eqb sort name-sort.array) (scope.array (record { row = row; offset = word; length = size })) (scope.constant word))
+
+-- as the code sees it
+abbrev pub seen-by : ℕ → ℕ → ℕ → Meaning
+seen-by sort row word = pick (eqb sort name-sort.var) (Variable row) (pick (eqb sort name-sort.array) (Array row) (Constant word))
+
+seen-bare : (sort row word size : ℕ) → meant (seen-by sort row word) ≡ bare (by-sort sort row word size)
+seen-bare sort row word size = by (eqb sort name-sort.var) (eqb sort name-sort.array)
+  where
+    by : (a b : Bool)
+        → meant (pick a (Variable row) (pick b (Array row) (Constant word)))
+        ≡ bare (pick a (scope.variable (record { row = row; offset = word })) (pick b (scope.array (record { row = row; offset = word; length = size })) (scope.constant word)))
+    by true b = refl
+    by false true = refl
+    by false false = refl
 
 -- name k
-abbrev pub meaning-at : Table → ℕ → Meaning
+abbrev pub meaning-at : Table → ℕ → scope.Meaning
 meaning-at t k = by-sort (getD (t .sorts) k 0) (getD (t .rows) k 0) (getD (t .words) k 0) (getD (t .sizes) k 0)
+
+pub seen-at : (t : Table) (k : ℕ) → meant (seen-by (getD (t .sorts) k 0) (getD (t .rows) k 0) (getD (t .words) k 0)) ≡ bare (meaning-at t k)
+seen-at t k = seen-bare (getD (t .sorts) k 0) (getD (t .rows) k 0) (getD (t .words) k 0) (getD (t .sizes) k 0)
 
 abbrev pub name-at : List ℕ → Table → ℕ → List ℕ
 name-at source t k = text source (getD (t .places) k 0) (getD (t .lengths) k 0)
 
 abbrev pub entry-at : List ℕ → Table → ℕ → Entry
-entry-at source t k = record { name = name-at source t k; meaning = meant (meaning-at t k) }
+entry-at source t k = record { name = name-at source t k; meaning = meaning-at t k }
 
 -- the first `count` names, the latest first
 unfoldable pub view : List ℕ → Table → ℕ → List Entry
@@ -80,7 +107,7 @@ pub record Has (t : Table) (k : ℕ) : Type 0 where
   pub sizes : k < length (t .sizes)
 
 -- one step of the search
-pub lookup-found : (source n : List ℕ) (t : Table) (k : ℕ) → 0 < k → same (name-at source t (k - 1)) n ≡ true → lookup (view source t k) n ≡ meant (meaning-at t (k - 1))
+pub lookup-found : (source n : List ℕ) (t : Table) (k : ℕ) → 0 < k → same (name-at source t (k - 1)) n ≡ true → lookup (view source t k) n ≡ meaning-at t (k - 1)
 unfolding view lookup
 lookup-found source n t zero h e = absurd (omega arith)
 lookup-found source n t (suc k) h e = let q : suc k - 1 ≡ k = omega arith in rw q (rw (rw q at e))
@@ -111,7 +138,8 @@ module _ (source : List ℕ) (t : Table) (n place length row sort word size : �
       )
       (ap (λ (es : List Entry). entry-at source t k ∷ es) (view-kept k (omega arith)))
 
-  pub view-more : Has t n → view source (with-name t n place length row sort word size) (suc n) ≡ record { name = text source place length; meaning = meant (by-sort sort row word size) } ∷ view source t n
+  pub view-more : Has t n
+      → view source (with-name t n place length row sort word size) (suc n) ≡ record { name = text source place length; meaning = by-sort sort row word size } ∷ view source t n
   unfolding view
   view-more h =
       rw (
@@ -122,8 +150,8 @@ module _ (source : List ℕ) (t : Table) (n place length row sort word size : �
         getD-set-same (t .words) n word 0 (h .words),
         getD-set-same (t .sizes) n size 0 (h .sizes),
       )
-      (ap (λ (es : List Entry). record { name = text source place length; meaning = meant (by-sort sort row word size) } ∷ es) (view-kept n (omega arith)))
+      (ap (λ (es : List Entry). record { name = text source place length; meaning = by-sort sort row word size } ∷ es) (view-kept n (omega arith)))
 
--- six arrays as a table
+-- lists as a table
 abbrev pub arrays : List ℕ → List ℕ → List ℕ → List ℕ → List ℕ → List ℕ → Table
 arrays places lengths rows sorts words sizes = record { places = places; lengths = lengths; rows = rows; sorts = sorts; words = words; sizes = sizes }

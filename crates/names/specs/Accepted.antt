@@ -8,7 +8,10 @@ use lib.ListN.{length, length-append}
 use lib.Dec.{ltb}
 use borrow.Author.Tests.{ltb-true, ltb-false}
 use Rattle.word.specs.Choice.{pick}
-use Rattle.grammar.specs.Grammar.{Token, number, name, mark, Constant, literal, named, Specification, val, commented, Expression, single, monadic, diadic, Chain, last, more, Operand, element, bracketed, Process, skip, stop, assign, assign-element, empty, braces, conditional, while, after-comment, Processes, only, followed, Program, program, text-expression, text-chain, text-operand, text-process, text-processes, text-constant, text-specification, text-specifications, text-program}
+use Rattle.token.specs.Refusals as refusal
+use Rattle.grammar.specs.Grammar.{Token, number, name, mark, Constant, literal, named, Specification, val, commented, Expression, single, monadic, diadic, Chain, last, more, Operand, element}
+use Rattle.grammar.specs.Grammar.{bracketed, Process, skip, stop, assign, assign-element, empty, braces, conditional, while, after-comment, Processes, only, followed, Program, program}
+use Rattle.grammar.specs.Grammar.{text-expression, text-chain, text-operand, text-process, text-processes, text-constant, text-specification, text-specifications, text-program}
 use Rattle.grammar.specs.Grammar as grammar
 use Rattle.program.specs.Tree as tree
 use Rattle.program.specs.Tree.{Declaration, data-words, words-of}
@@ -17,7 +20,8 @@ use Rattle.program.specs.Core.{core-process, core-list, joined}
 use Rattle.program.specs.Depth.{deepest}
 use Rattle.program.specs.Sound.{Declares, here, later, Lengths, SoundExpression, SoundProcess, Sound}
 use Rattle.names.specs.Scope.{Meaning, unknown, variable, array, constant, Entry, Scope, empty-scope, same, lookup, word-of, meaning-of, constant-word, declare, declare-all}
-use Rattle.names.specs.Complaints.{as-value, as-target, as-array, as-constant, is-known, when, bad-length, too-many, at, of-constant, has-word, of-array, of-specification, of-specifications, of-expression, of-chain, of-operand, of-process, of-processes, complaints}
+use Rattle.names.specs.Complaints.{as-value, as-target, as-array, as-constant, is-known, when, bad-length, too-many, at, of-constant, has-word, of-array, of-specification}
+use Rattle.names.specs.Complaints.{of-specifications, of-expression, of-chain, of-operand, of-process, of-processes, complaints}
 use Rattle.names.specs.Resolve as resolve
 use Rattle.names.specs.Resolve.{value, element-of, assigned, element-assigned, declared, declarations}
 
@@ -277,20 +281,20 @@ module _ (text : ℕ → List ℕ) (place : ℕ → ℕ) where
   fits-declare : (d : Specification) (ds : List Declaration) (s : Scope) → Fits ds s → WordsS d → of-specification text place d s ≡ [] → Fits (ds ++ own d s) (declare text d s)
   fits-declare (grammar.var n) ds s f w h =
       let x = none-at n _ h in
-      let r = room s 1 (none-when (too-many s 1) 12 (none-right (when (is-known (meaning-of text s n)) 9) _ x)) in
+      let r = room s 1 (none-when (too-many s 1) refusal.too-much (none-right (when (is-known (meaning-of text s n)) refusal.declared-twice) _ x)) in
       fits-more ds s (text n) tree.var (variable (record { row = s .rows; offset = s .words })) f (r .0) (r .1) tt (declares-last ds tree.var (s .rows) (s .words) (f .rows) (f .words))
   fits-declare (grammar.array n c) ds s f w h =
       let k = constant-word text s c in
       let x = none-at n _ (none-left _ (of-constant text place s c) h) in
       let t = has-one s c (none-right (at text place n (of-array text place s n c)) _ h) in
-      let y : when (bad-length k) 11 ++ when (too-many s k) 12 ≡ [] = rw t at (none-right (when (is-known (meaning-of text s n)) 9) _ x) in
-      let l = good-length k (none-when (bad-length k) 11 (none-left _ (when (too-many s k) 12) y)) in
-      let r = room s k (none-when (too-many s k) 12 (none-right (when (bad-length k) 11) _ y)) in
+      let y : when (bad-length k) refusal.bad-length ++ when (too-many s k) refusal.too-much ≡ [] = rw t at (none-right (when (is-known (meaning-of text s n)) refusal.declared-twice) _ x) in
+      let l = good-length k (none-when (bad-length k) refusal.bad-length (none-left _ (when (too-many s k) refusal.too-much) y)) in
+      let r = room s k (none-when (too-many s k) refusal.too-much (none-right (when (bad-length k) refusal.bad-length) _ y)) in
       fits-more ds s (text n) (tree.array k) (array (record { row = s .rows; offset = s .words; length = k })) f (r .0) (r .1) (l .0, l .1, tt)
       (declares-last ds (tree.array k) (s .rows) (s .words) (f .rows) (f .words))
   fits-declare (val n c) ds s f w h =
       let x = none-at n _ (none-left _ (of-constant text place s c) h) in
-      let r = room s 0 (none-when (too-many s 0) 12 (none-right (when (is-known (meaning-of text s n)) 9) _ x)) in
+      let r = room s 0 (none-when (too-many s 0) refusal.too-much (none-right (when (is-known (meaning-of text s n)) refusal.declared-twice) _ x)) in
       rw (append-nil ds) (fits-val ds s (text n) (constant-word text s c) f (r .0) (constant-small ds s c f w))
   fits-declare (commented d) ds s f w h = fits-declare d ds s f w h
 
@@ -359,23 +363,29 @@ module _ (text : ℕ → List ℕ) (place : ℕ → ℕ) where
       sound-P skip w h = tt
       sound-P stop w h = tt
       sound-P (assign n e) w h =
-          sound-assigned (meaning-of text s n) (resolve.expression text e s) (here-stands n) (none-at n _ (none-left _ (of-expression text place e s) h)) (sound-E e w (none-right (at text place n (as-target (meaning-of text s n))) _ h))
+          sound-assigned (meaning-of text s n) (resolve.expression text e s) (here-stands n) (none-at n _ (none-left _ (of-expression text place e s) h))
+          (sound-E e w (none-right (at text place n (as-target (meaning-of text s n))) _ h))
       sound-P (assign-element n i e) w h =
           let x = none-right (at text place n (as-array (meaning-of text s n))) _ h in
-          sound-element-assigned (meaning-of text s n) (resolve.expression text i s) (resolve.expression text e s) (here-stands n) (none-at n _ (none-left _ (of-expression text place i s ++ of-expression text place e s) h))
+          sound-element-assigned (meaning-of text s n) (resolve.expression text i s) (resolve.expression text e s) (here-stands n)
+          (none-at n _ (none-left _ (of-expression text place i s ++ of-expression text place e s) h))
           (sound-E i (w .0) (none-left _ (of-expression text place e s) x)) (sound-E e (w .1) (none-right (of-expression text place i s) _ x))
       sound-P empty w h = tt
       sound-P (braces ps) w h = sound-L ps w h
       sound-P (conditional e p q) w h =
-          let x = none-right (of-expression text place e s) _ h in
-          (sound-E e (w .0) (none-left _ (of-process text place p s ++ of-process text place q s) h), sound-P p (w .1) (none-left _ (of-process text place q s) x), sound-P q (w .2) (none-right (of-process text place p s) _ x))
+          let x = none-right (of-expression text place e s) _ h in (
+            sound-E e (w .0) (none-left _ (of-process text place p s ++ of-process text place q s) h),
+            sound-P p (w .1) (none-left _ (of-process text place q s) x),
+            sound-P q (w .2) (none-right (of-process text place p s) _ x),
+          )
       sound-P (while e p) w h = (sound-E e (w .0) (none-left _ (of-process text place p s) h), sound-P p (w .1) (none-right (of-expression text place e s) _ h))
       sound-P (after-comment p) w h = sound-P p w h
 
       sound-L : (ps : Processes) → WordsL ps → of-processes text place ps s ≡ [] → SoundProcess ds (core-list (resolve.processes text ps s))
       sound-L (only p) w h = sound-P p w h
       sound-L (followed p ps) w h =
-          sound-joined (core-process (resolve.process text p s)) (resolve.processes text ps s) (sound-P p (w .0) (none-left _ (of-processes text place ps s) h)) (sound-L ps (w .1) (none-right (of-process text place p s) _ h))
+          sound-joined (core-process (resolve.process text p s)) (resolve.processes text ps s) (sound-P p (w .0) (none-left _ (of-processes text place ps s) h))
+          (sound-L ps (w .1) (none-right (of-process text place p s) _ h))
 
   -- THE THEOREM: tokens whose constants are words, no complaint, N at most 32
   pub sound : (p : Program) → Words (text-program p) → complaints text place p ≡ [] → deepest (resolve.resolve text p .body) ≤ 32 → Sound (resolve.resolve text p)

@@ -5,7 +5,9 @@ use mathlib.Core.List.{List, [], _∷_, _++_}
 use Prim.Native.Nat.{ℕ, _+_}
 use lib.Dec.{eqb, ltb, leb}
 use Rattle.word.specs.Choice.{pick}
-use Rattle.grammar.specs.Grammar.{Constant, literal, named, Specification, var, val, commented, Expression, single, monadic, diadic, Chain, last, more, Operand, element, bracketed, Process, skip, stop, assign, assign-element, empty, braces, conditional, while, after-comment, Processes, only, followed, Program, program}
+use Rattle.token.specs.Refusals as refusal
+use Rattle.grammar.specs.Grammar.{Constant, literal, named, Specification, var, val, commented, Expression, single, monadic, diadic, Chain, last, more, Operand, element, bracketed, Process, skip}
+use Rattle.grammar.specs.Grammar.{stop, assign, assign-element, empty, braces, conditional, while, after-comment, Processes, only, followed, Program, program}
 use Rattle.grammar.specs.Grammar as grammar
 use Rattle.names.specs.Scope.{Meaning, unknown, variable, array, constant, Scope, empty-scope, meaning-of, constant-word, declare, declare-all}
 
@@ -17,27 +19,27 @@ pub record Complaint : Type 0 where
 -- what a name stands for, by sort: which of the refusals 8 and 10 a use of it deserves, if any
 -- "8 name not declared before"; "10 wrong kind: array without subscript, val assigned, subscript on a var or val, non-val in a constant"
 abbrev pub as-value : Meaning → List ℕ
-as-value unknown = 8 ∷ []
+as-value unknown = refusal.not-declared ∷ []
 as-value (variable v) = []
-as-value (array a) = 10 ∷ []
+as-value (array a) = refusal.wrong-kind ∷ []
 as-value (constant w) = []
 
 abbrev pub as-target : Meaning → List ℕ
-as-target unknown = 8 ∷ []
+as-target unknown = refusal.not-declared ∷ []
 as-target (variable v) = []
-as-target (array a) = 10 ∷ []
-as-target (constant w) = 10 ∷ []
+as-target (array a) = refusal.wrong-kind ∷ []
+as-target (constant w) = refusal.wrong-kind ∷ []
 
 abbrev pub as-array : Meaning → List ℕ
-as-array unknown = 8 ∷ []
-as-array (variable v) = 10 ∷ []
+as-array unknown = refusal.not-declared ∷ []
+as-array (variable v) = refusal.wrong-kind ∷ []
 as-array (array a) = []
-as-array (constant w) = 10 ∷ []
+as-array (constant w) = refusal.wrong-kind ∷ []
 
 abbrev pub as-constant : Meaning → List ℕ
-as-constant unknown = 8 ∷ []
-as-constant (variable v) = 10 ∷ []
-as-constant (array a) = 10 ∷ []
+as-constant unknown = refusal.not-declared ∷ []
+as-constant (variable v) = refusal.wrong-kind ∷ []
+as-constant (array a) = refusal.wrong-kind ∷ []
 as-constant (constant w) = []
 
 abbrev pub is-known : Meaning → Bool
@@ -80,18 +82,18 @@ module _ (text : ℕ → List ℕ) (place : ℕ → ℕ) where
 
   -- "9 name declared twice: the second"
   abbrev pub twice : Scope → ℕ → List ℕ
-  twice s n = when (is-known (meaning-of text s n)) 9
+  twice s n = when (is-known (meaning-of text s n)) refusal.declared-twice
 
   -- what an array's name deserves: 11, and 12 by its words, where its length is known
   abbrev pub of-array : Scope → ℕ → Constant → List ℕ
   of-array s n c =
       twice s n
-      ++ pick (has-word s c) (when (bad-length (constant-word text s c)) 11 ++ when (too-many s (constant-word text s c)) 12) (when (too-many s 0) 12)
+      ++ pick (has-word s c) (when (bad-length (constant-word text s c)) refusal.bad-length ++ when (too-many s (constant-word text s c)) refusal.too-much) (when (too-many s 0) refusal.too-much)
 
   abbrev pub of-specification : Specification → Scope → List Complaint
-  of-specification (var n) s = at n (twice s n ++ when (too-many s 1) 12)
+  of-specification (var n) s = at n (twice s n ++ when (too-many s 1) refusal.too-much)
   of-specification (grammar.array n c) s = at n (of-array s n c) ++ of-constant s c
-  of-specification (val n c) s = at n (twice s n ++ when (too-many s 0) 12) ++ of-constant s c
+  of-specification (val n c) s = at n (twice s n ++ when (too-many s 0) refusal.too-much) ++ of-constant s c
   of-specification (commented d) s = of-specification d s
 
   abbrev pub of-specifications : List Specification → Scope → List Complaint

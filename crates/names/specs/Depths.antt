@@ -3,7 +3,8 @@ use mathlib.Core.Path.{_≡_, refl, ap, ap₂, _∙_}
 use mathlib.Core.List.{List, [], _++_}
 use Prim.Native.Nat.{ℕ, suc, max}
 use native.Mathlib.Omega.{arith}
-use Rattle.grammar.specs.Grammar.{Expression, single, monadic, diadic, Chain, last, more, Operand, element, bracketed, Process, skip, stop, assign, assign-element, empty, braces, conditional, while, after-comment, Processes, only, followed, Program, program}
+use Rattle.grammar.specs.Grammar.{Expression, single, monadic, diadic, Chain, last, more, Operand, element, bracketed, Process, skip, stop, assign, assign-element, empty, braces, conditional}
+use Rattle.grammar.specs.Grammar.{while, after-comment, Processes, only, followed, Program, program}
 use Rattle.grammar.specs.Grammar as grammar
 use Rattle.grammar.specs.Depth as raw
 use Rattle.program.specs.Tree as tree
@@ -67,7 +68,8 @@ module _ (text : ℕ → List ℕ) (place : ℕ → ℕ) (s : Scope) where
     deepest-P (assign-element x i e) h =
         let k = none-right (at text place x (as-array (meaning-of text s x))) _ h in
         ap₂ (λ (n m : ℕ). max (suc n) m) (depth-E i (none-left _ (of-expression text place e s) k)) (depth-E e (none-right (of-expression text place i s) _ k))
-        ∙ stored-depth (meaning-of text s x) (resolve.expression text i s) (resolve.expression text e s) (none-at text place x _ (none-left _ (of-expression text place i s ++ of-expression text place e s) h))
+        ∙ stored-depth (meaning-of text s x) (resolve.expression text i s) (resolve.expression text e s)
+        (none-at text place x _ (none-left _ (of-expression text place i s ++ of-expression text place e s) h))
     deepest-P empty h = refl
     deepest-P (braces ps) h = deepest-L ps h
     deepest-P (conditional e p q) h =

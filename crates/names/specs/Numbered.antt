@@ -4,21 +4,24 @@ use mathlib.Core.List.{List, [], _∷_, _++_}
 use Prim.Native.Nat.{ℕ, _≤_}
 use native.Mathlib.Omega.{arith}
 use Rattle.word.specs.Choice.{pick}
-use Rattle.grammar.specs.Grammar.{Constant, literal, named, Specification, var, val, commented, Expression, single, monadic, diadic, Chain, last, more, Operand, element, bracketed, Process, skip, stop, assign, assign-element, empty, braces, conditional, while, after-comment, Processes, only, followed, Program, program}
+use Rattle.token.specs.Refusals as refusal
+use Rattle.grammar.specs.Grammar.{Constant, literal, named, Specification, var, val, commented, Expression, single, monadic, diadic, Chain, last, more, Operand, element, bracketed, Process, skip}
+use Rattle.grammar.specs.Grammar.{stop, assign, assign-element, empty, braces, conditional, while, after-comment, Processes, only, followed, Program, program}
 use Rattle.grammar.specs.Grammar as grammar
 use Rattle.names.specs.Scope.{Meaning, unknown, variable, array, constant, Scope, empty-scope, meaning-of, constant-word, declare, declare-all}
-use Rattle.names.specs.Complaints.{Complaint, as-value, as-target, as-array, as-constant, is-known, when, bad-length, too-many, at, of-constant, has-word, twice, of-array, of-specification, of-specifications, of-expression, of-chain, of-operand, of-process, of-processes, complaints, earlier, Verdict, fine, refused, lesser, least}
+use Rattle.names.specs.Complaints.{Complaint, as-value, as-target, as-array, as-constant, is-known, when, bad-length, too-many, at, of-constant, has-word, twice, of-array, of-specification}
+use Rattle.names.specs.Complaints.{of-specifications, of-expression, of-chain, of-operand, of-process, of-processes, complaints, earlier, Verdict, fine, refused, lesser, least}
 
 -- ── numbers ──
 abbrev Numbered : List ℕ → Type 0
 Numbered [] = Unit {0}
-Numbered (k ∷ ks) = (8 ≤ k) × (k ≤ 12) × Numbered ks
+Numbered (k ∷ ks) = (refusal.not-declared ≤ k) × (k ≤ refusal.too-much) × Numbered ks
 
 numbered-append : (a b : List ℕ) → Numbered a → Numbered b → Numbered (a ++ b)
 numbered-append [] b p q = q
 numbered-append (k ∷ a) b p q = (p .0, p .1, numbered-append a b (p .2) q)
 
-numbered-when : (b : Bool) (k : ℕ) → 8 ≤ k → k ≤ 12 → Numbered (when b k)
+numbered-when : (b : Bool) (k : ℕ) → refusal.not-declared ≤ k → k ≤ refusal.too-much → Numbered (when b k)
 numbered-when true k l h = (l, h, tt)
 numbered-when false k l h = tt
 
@@ -26,10 +29,10 @@ numbered-pick : (b : Bool) (x y : List ℕ) → Numbered x → Numbered y → Nu
 numbered-pick true x y p q = p
 numbered-pick false x y p q = q
 
-eight : Numbered (8 ∷ [])
+eight : Numbered (refusal.not-declared ∷ [])
 eight = (omega arith, omega arith, tt)
 
-ten : Numbered (10 ∷ [])
+ten : Numbered (refusal.wrong-kind ∷ [])
 ten = (omega arith, omega arith, tt)
 
 value-numbered : (m : Meaning) → Numbered (as-value m)
@@ -59,8 +62,8 @@ constant-numbered (constant w) = tt
 -- ── complaints ──
 -- number 8 to 12, place at most `end`
 pub record Within (end : ℕ) (c : Complaint) : Type 0 where
-  pub low : 8 ≤ c .number
-  pub high : c .number ≤ 12
+  pub low : refusal.not-declared ≤ c .number
+  pub high : c .number ≤ refusal.too-much
   pub inside : c .place ≤ end
 
 abbrev pub Judged : ℕ → Verdict → Type 0
@@ -88,22 +91,25 @@ module _ (text : ℕ → List ℕ) (place : ℕ → ℕ) (end : ℕ) (places : (
   constant-all s (named n) = use-all as-constant constant-numbered n s
 
   twice-numbered : (s : Scope) (n : ℕ) → Numbered (twice text place s n)
-  twice-numbered s n = numbered-when (is-known (meaning-of text s n)) 9 (omega arith) (omega arith)
+  twice-numbered s n = numbered-when (is-known (meaning-of text s n)) refusal.declared-twice (omega arith) (omega arith)
 
-  full-numbered : (s : Scope) (n w : ℕ) → Numbered (twice text place s n ++ when (too-many s w) 12)
-  full-numbered s n w = numbered-append (twice text place s n) _ (twice-numbered s n) (numbered-when (too-many s w) 12 (omega arith) (omega arith))
+  full-numbered : (s : Scope) (n w : ℕ) → Numbered (twice text place s n ++ when (too-many s w) refusal.too-much)
+  full-numbered s n w = numbered-append (twice text place s n) _ (twice-numbered s n) (numbered-when (too-many s w) refusal.too-much (omega arith) (omega arith))
 
   of-array-numbered : (s : Scope) (n : ℕ) (c : Constant) → Numbered (of-array text place s n c)
   of-array-numbered s n c =
       numbered-append (twice text place s n) _ (twice-numbered s n)
       (numbered-pick (has-word text place s c) _ _
-      (numbered-append (when (bad-length (constant-word text s c)) 11) _ (numbered-when (bad-length (constant-word text s c)) 11 (omega arith) (omega arith)) (numbered-when (too-many s (constant-word text s c)) 12 (omega arith) (omega arith)))
-      (numbered-when (too-many s 0) 12 (omega arith) (omega arith)))
+      (numbered-append (when (bad-length (constant-word text s c)) refusal.bad-length) _
+      (numbered-when (bad-length (constant-word text s c)) refusal.bad-length (omega arith) (omega arith))
+      (numbered-when (too-many s (constant-word text s c)) refusal.too-much (omega arith) (omega arith)))
+      (numbered-when (too-many s 0) refusal.too-much (omega arith) (omega arith)))
 
   specification-all : (d : Specification) (s : Scope) → All (of-specification text place d s)
-  specification-all (var n) s = at-all n (twice text place s n ++ when (too-many s 1) 12) (full-numbered s n 1)
+  specification-all (var n) s = at-all n (twice text place s n ++ when (too-many s 1) refusal.too-much) (full-numbered s n 1)
   specification-all (grammar.array n c) s = join (at text place n (of-array text place s n c)) _ (at-all n (of-array text place s n c) (of-array-numbered s n c)) (constant-all s c)
-  specification-all (val n c) s = join (at text place n (twice text place s n ++ when (too-many s 0) 12)) _ (at-all n (twice text place s n ++ when (too-many s 0) 12) (full-numbered s n 0)) (constant-all s c)
+  specification-all (val n c) s = join (at text place n (twice text place s n ++ when (too-many s 0) refusal.too-much)) _
+      (at-all n (twice text place s n ++ when (too-many s 0) refusal.too-much) (full-numbered s n 0)) (constant-all s c)
   specification-all (commented d) s = specification-all d s
 
   specifications-all : (ds : List Specification) (s : Scope) → All (of-specifications text place ds s)
@@ -131,7 +137,8 @@ module _ (text : ℕ → List ℕ) (place : ℕ → ℕ) (end : ℕ) (places : (
     process-all skip s = tt
     process-all stop s = tt
     process-all (assign n e) s = join (at text place n (as-target (meaning-of text s n))) _ (use-all as-target target-numbered n s) (expression-all e s)
-    process-all (assign-element n i e) s = join (at text place n (as-array (meaning-of text s n))) _ (use-all as-array array-numbered n s) (join (of-expression text place i s) _ (expression-all i s) (expression-all e s))
+    process-all (assign-element n i e) s =
+        join (at text place n (as-array (meaning-of text s n))) _ (use-all as-array array-numbered n s) (join (of-expression text place i s) _ (expression-all i s) (expression-all e s))
     process-all empty s = tt
     process-all (braces ps) s = processes-all ps s
     process-all (conditional e p q) s = join (of-expression text place e s) _ (expression-all e s) (join (of-process text place p s) _ (process-all p s) (process-all q s))

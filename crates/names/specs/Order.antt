@@ -5,10 +5,14 @@ use mathlib.Core.List.{List, [], _∷_, _++_, append-assoc, append-nil}
 use Prim.Native.Nat.{ℕ, suc, _≤_, _<_}
 use native.Mathlib.Omega.{arith}
 use Rattle.word.specs.Choice.{pick}
-use Rattle.grammar.specs.Grammar.{Token, number, name, mark, Constant, literal, named, Specification, val, commented, Expression, single, monadic, diadic, Chain, last, more, Operand, element, bracketed, Process, skip, stop, assign, assign-element, empty, braces, conditional, while, after-comment, Processes, only, followed, Program, program, text-expression, text-chain, text-operand, text-process, text-processes, text-constant, text-specification, text-specifications, text-program}
+use Rattle.token.specs.Refusals as refusal
+use Rattle.grammar.specs.Grammar.{Token, number, name, mark, Constant, literal, named, Specification, val, commented, Expression, single, monadic, diadic, Chain, last, more, Operand, element}
+use Rattle.grammar.specs.Grammar.{bracketed, Process, skip, stop, assign, assign-element, empty, braces, conditional, while, after-comment, Processes, only, followed, Program, program}
+use Rattle.grammar.specs.Grammar.{text-expression, text-chain, text-operand, text-process, text-processes, text-constant, text-specification, text-specifications, text-program}
 use Rattle.grammar.specs.Grammar as grammar
 use Rattle.names.specs.Scope.{Meaning, unknown, variable, array, constant, Scope, empty-scope, meaning-of, constant-word, declare, declare-all}
-use Rattle.names.specs.Complaints.{Complaint, as-value, as-target, as-array, as-constant, is-known, when, bad-length, too-many, at, of-constant, has-word, twice, of-array, of-specification, of-specifications, of-expression, of-chain, of-operand, of-process, of-processes, complaints, least}
+use Rattle.names.specs.Complaints.{Complaint, as-value, as-target, as-array, as-constant, is-known, when, bad-length, too-many, at, of-constant, has-word, twice, of-array, of-specification}
+use Rattle.names.specs.Complaints.{of-specifications, of-expression, of-chain, of-operand, of-process, of-processes, complaints, least}
 use Rattle.names.specs.First.{first, BeforeAll, Ordered, least-first}
 
 -- ── the names of a text, and of each part, in order ──
@@ -125,7 +129,7 @@ rising-two true false i j h = tt
 rising-two false true i j h = tt
 rising-two false false i j h = tt
 
-rising-array : (a b c : Bool) → Rising (when a 9 ++ (when b 11 ++ when c 12))
+rising-array : (a b c : Bool) → Rising (when a refusal.declared-twice ++ (when b refusal.bad-length ++ when c refusal.too-much))
 rising-array true true true = (omega arith, (omega arith, tt))
 rising-array true true false = (omega arith, tt)
 rising-array true false true = (omega arith, tt)
@@ -286,7 +290,10 @@ module _ (text : ℕ → List ℕ) (place : ℕ → ℕ) where
           rw (append-assoc (at text place n (as-target (meaning-of text s n))) (of-expression text place e s) cs)
           (at-name n (as-target (meaning-of text s n)) (names-E e w) _ (rising-target (meaning-of text s n)) (h .0) (order-E e w cs (h .1) o))
       order-P (assign-element n i e) w cs h o =
-          rw (append-assoc (at text place n (as-array (meaning-of text s n))) (of-expression text place i s ++ of-expression text place e s) cs, append-assoc (of-expression text place i s) (of-expression text place e s) cs)
+          rw (
+            append-assoc (at text place n (as-array (meaning-of text s n))) (of-expression text place i s ++ of-expression text place e s) cs,
+            append-assoc (of-expression text place i s) (of-expression text place e s) cs,
+          )
           (at-name n (as-array (meaning-of text s n)) _ _ (rising-element (meaning-of text s n)) (h .0) (order-E i _ _ (h .1) (order-E e w cs (asc-E i _ (h .1)) o)))
       order-P empty w cs h o = o
       order-P (braces ps) w cs h o = order-L ps w cs h o
@@ -307,18 +314,22 @@ module _ (text : ℕ → List ℕ) (place : ℕ → ℕ) where
     rising-of-array : (n : ℕ) (c : Constant) → Rising (of-array text place s n c)
     rising-of-array n c = by (has-word text place s c)
       where
-        by : (b : Bool) → Rising (twice text place s n ++ pick b (when (bad-length (constant-word text s c)) 11 ++ when (too-many s (constant-word text s c)) 12) (when (too-many s 0) 12))
+        by : (b : Bool)
+            → Rising (twice text place s n ++ pick b (when (bad-length (constant-word text s c)) refusal.bad-length ++ when (too-many s (constant-word text s c)) refusal.too-much)
+            (when (too-many s 0) refusal.too-much))
         by true = rising-array (is-known (meaning-of text s n)) (bad-length (constant-word text s c)) (too-many s (constant-word text s c))
-        by false = rising-two (is-known (meaning-of text s n)) (too-many s 0) 9 12 (omega arith)
+        by false = rising-two (is-known (meaning-of text s n)) (too-many s 0) refusal.declared-twice refusal.too-much (omega arith)
 
   order-S : (d : Specification) (s : Scope) (w : List ℕ) (cs : List Complaint) → Ascending (names-S d w) → InOrder w cs → InOrder (names-S d w) (of-specification text place d s ++ cs)
-  order-S (grammar.var n) s w cs h o = at-name n (twice text place s n ++ when (too-many s 1) 12) w cs (rising-two (is-known (meaning-of text s n)) (too-many s 1) 9 12 (omega arith)) (h .0) o
+  order-S (grammar.var n) s w cs h o = at-name n (twice text place s n ++ when (too-many s 1) refusal.too-much) w cs
+      (rising-two (is-known (meaning-of text s n)) (too-many s 1) refusal.declared-twice refusal.too-much (omega arith)) (h .0) o
   order-S (grammar.array n c) s w cs h o =
       rw (append-assoc (at text place n (of-array text place s n c)) (of-constant text place s c) cs)
       (at-name n (of-array text place s n c) _ _ (rising-of-array s n c) (h .0) (order-K s c w cs (h .1) o))
   order-S (val n c) s w cs h o =
-      rw (append-assoc (at text place n (twice text place s n ++ when (too-many s 0) 12)) (of-constant text place s c) cs)
-      (at-name n (twice text place s n ++ when (too-many s 0) 12) _ _ (rising-two (is-known (meaning-of text s n)) (too-many s 0) 9 12 (omega arith)) (h .0) (order-K s c w cs (h .1) o))
+      rw (append-assoc (at text place n (twice text place s n ++ when (too-many s 0) refusal.too-much)) (of-constant text place s c) cs)
+      (at-name n (twice text place s n ++ when (too-many s 0) refusal.too-much) _ _
+      (rising-two (is-known (meaning-of text s n)) (too-many s 0) refusal.declared-twice refusal.too-much (omega arith)) (h .0) (order-K s c w cs (h .1) o))
   order-S (commented d) s w cs h o = order-S d s w cs h o
 
   order-Ss : (ds : List Specification) (s : Scope) (w : List ℕ) (cs : List Complaint) → Ascending (names-Ss ds w) → InOrder w cs → InOrder (names-Ss ds w) (of-specifications text place ds s ++ cs)

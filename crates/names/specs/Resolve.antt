@@ -4,7 +4,8 @@ use Prim.Native.Nat.{ℕ, _-_}
 use lib.Dec.{eqb}
 use Rattle.word.specs.Choice.{pick}
 use Rattle.spelling.specs.Kinds as kind
-use Rattle.grammar.specs.Grammar.{Specification, val, commented, Expression, single, monadic, diadic, Chain, last, more, Operand, element, bracketed, Process, skip, stop, assign, assign-element, empty, braces, conditional, while, after-comment, Processes, only, followed, Program, program}
+use Rattle.grammar.specs.Grammar.{Specification, val, commented, Expression, single, monadic, diadic, Chain, last, more, Operand, element, bracketed, Process, skip, stop, assign, assign-element}
+use Rattle.grammar.specs.Grammar.{empty, braces, conditional, while, after-comment, Processes, only, followed, Program, program}
 use Rattle.grammar.specs.Grammar as grammar
 use Rattle.program.specs.Tree as tree
 use Rattle.program.specs.Table.{diadic-of}
@@ -15,7 +16,7 @@ abbrev pub monadic-operator : ℕ → tree.Monadic
 monadic-operator o = pick (eqb o kind.minus) tree.negate tree.invert
 
 abbrev pub diadic-operator : ℕ → tree.Diadic
-diadic-operator o = diadic-of (o - 30)
+diadic-operator o = diadic-of (o - kind.operator-base)
 
 -- a name as an operand: a val's use is its constant; what was refused stands for 0
 abbrev pub value : Meaning → tree.Expression

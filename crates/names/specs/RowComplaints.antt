@@ -8,10 +8,13 @@ use lib.ListN.{length, length-append}
 use lib.Dec.{eqb, ltb, leb}
 use borrow.Author.Tests.{ltb-true, ltb-false, eqb-true, eqb-false, leb-true, leb-false, lt-ltb, le-ltb, eq-eqb, le-leb}
 use Rattle.word.specs.Choice.{pick}
-use Rattle.grammar.specs.Grammar.{Expression, single, monadic, diadic, Chain, last, more, Operand, element, bracketed, Process, skip, stop, assign, assign-element, empty, braces, conditional, while, after-comment, Processes, only, followed}
+use Rattle.grammar.specs.Grammar.{Expression, single, monadic, diadic, Chain, last, more, Operand, element, bracketed, Process, skip, stop, assign, assign-element, empty, braces, conditional}
+use Rattle.grammar.specs.Grammar.{while, after-comment, Processes, only, followed}
 use Rattle.grammar.specs.Grammar as grammar
 use Rattle.grammar.specs.Rows as raw
 use Rattle.grammar.specs.RowLaws.{length-expression, length-chain, length-operand, length-process, length-processes}
+use Rattle.program.specs.Layout.{row-words}
+use Rattle.program.specs.Layout as layout
 use Rattle.program.specs.Rows.{row}
 use Rattle.names.specs.Scope.{Meaning, Scope, meaning-of}
 use Rattle.names.specs.First.{Before, is-earlier}
@@ -107,7 +110,7 @@ least-swap xs ys = least-append xs ys ∙ lesser-of-comm (least xs) (least ys) �
 
 -- what the name of a raw row deserves, by the row's kind
 abbrev pub numbers-of : ℕ → Meaning → List ℕ
-numbers-of k m = pick (eqb k 4) (as-value m) (pick (eqb k 10) (as-target m) (pick (eqb k 5) (as-array m) (pick (eqb k 11) (as-array m) [])))
+numbers-of k m = pick (eqb k layout.variable) (as-value m) (pick (eqb k layout.assign) (as-target m) (pick (eqb k layout.element) (as-array m) (pick (eqb k layout.assign-element) (as-array m) [])))
 
 module _ (text : ℕ → List ℕ) (place : ℕ → ℕ) (s : Scope) where
   abbrev pub row-complaint : ℕ → ℕ → List Complaint
@@ -120,7 +123,7 @@ module _ (text : ℕ → List ℕ) (place : ℕ → ℕ) (s : Scope) where
   row-complaints (k ∷ a ∷ b ∷ []) = []
   row-complaints (k ∷ a ∷ b ∷ c ∷ t) = row-complaint k a ++ row-complaints t
 
-  pub complaints-append : (n : ℕ) (xs ys : List ℕ) → length xs ≡ 4 * n → row-complaints (xs ++ ys) ≡ row-complaints xs ++ row-complaints ys
+  pub complaints-append : (n : ℕ) (xs ys : List ℕ) → length xs ≡ row-words * n → row-complaints (xs ++ ys) ≡ row-complaints xs ++ row-complaints ys
   unfolding row-complaints
   complaints-append zero [] ys h = refl
   complaints-append zero (k ∷ xs) ys h = absurd (omega arith)
@@ -144,57 +147,59 @@ module _ (text : ℕ → List ℕ) (place : ℕ → ℕ) (s : Scope) where
     is : least (row-complaints xs) ≡ least cs
 
   -- parts in turn
-  same-append : (n : ℕ) (xs ys : List ℕ) (cs ds : List Complaint) → length xs ≡ 4 * n → Same xs cs → Same ys ds → Same (xs ++ ys) (cs ++ ds)
+  same-append : (n : ℕ) (xs ys : List ℕ) (cs ds : List Complaint) → length xs ≡ row-words * n → Same xs cs → Same ys ds → Same (xs ++ ys) (cs ++ ds)
   same-append n xs ys cs ds l p q = record
       { is = ap least (complaints-append n xs ys l) ∙ least-append (row-complaints xs) (row-complaints ys) ∙ ap₂ lesser-of (p .is) (q .is) ∙ sym (least-append cs ds) }
 
   -- a part's own row comes last, its name first
-  same-last : (n k a b c : ℕ) (xs : List ℕ) (cs : List Complaint) → length xs ≡ 4 * n → Same xs cs → Same (xs ++ row k a b c) (row-complaint k a ++ cs)
+  same-last : (n k a b c : ℕ) (xs : List ℕ) (cs : List Complaint) → length xs ≡ row-words * n → Same xs cs → Same (xs ++ row k a b c) (row-complaint k a ++ cs)
   same-last n k a b c xs cs l p =
       let q = same-append n xs (row k a b c) cs (row-complaint k a) l p (record { is = ap least (one-row k a b c) }) in
       record { is = q .is ∙ least-swap cs (row-complaint k a) }
 
   -- and a row without a name changes nothing
-  same-plain : (n k a b c : ℕ) (xs : List ℕ) (cs : List Complaint) → length xs ≡ 4 * n → row-complaint k a ≡ [] → Same xs cs → Same (xs ++ row k a b c) cs
+  same-plain : (n k a b c : ℕ) (xs : List ℕ) (cs : List Complaint) → length xs ≡ row-words * n → row-complaint k a ≡ [] → Same xs cs → Same (xs ++ row k a b c) cs
   same-plain n k a b c xs cs l e p = let q = same-last n k a b c xs cs l p in record { is = q .is ∙ ap (λ (t : List Complaint). least (t ++ cs)) e }
 
   -- two operands and the row that joins them
-  same-joined : (o c d m l : ℕ) (xs ys : List ℕ) (cs ds : List Complaint) → length xs ≡ 4 * c → length ys ≡ 4 * d → Same xs cs → Same ys ds → Same (raw.joined o xs ys m l) (cs ++ ds)
+  same-joined : (o c d m l : ℕ) (xs ys : List ℕ) (cs ds : List Complaint) → length xs ≡ row-words * c → length ys ≡ row-words * d → Same xs cs → Same ys ds → Same (raw.joined o xs ys m l) (cs ++ ds)
   same-joined o c d m l xs ys cs ds lx ly p q =
-      same-plain (c + d) 7 _ _ _ (xs ++ ys) (cs ++ ds) (length-append xs ys ∙ omega arith) refl (same-append c xs ys cs ds lx p q)
+      same-plain (c + d) layout.diadic _ _ _ (xs ++ ys) (cs ++ ds) (length-append xs ys ∙ omega arith) refl (same-append c xs ys cs ds lx p q)
 
   mutual
     unfolding raw.rows-expression
 
     same-E : (e : Expression) (n : ℕ) → Same (raw.rows-expression e n) (of-expression text place e s)
     same-E (single a) n = same-O a n
-    same-E (monadic o a) n = same-plain (raw.count-operand a) 6 _ _ _ (raw.rows-operand a n) _ (length-operand a n) refl (same-O a n)
-    same-E (diadic o a c) n = same-joined o (raw.count-operand a) (raw.count-chain c) _ _ (raw.rows-operand a n) (raw.rows-chain c o (n + raw.count-operand a)) _ _ (length-operand a n) (length-chain c o (n + raw.count-operand a)) (same-O a n) (same-C c o (n + raw.count-operand a))
+    same-E (monadic o a) n = same-plain (raw.count-operand a) layout.monadic _ _ _ (raw.rows-operand a n) _ (length-operand a n) refl (same-O a n)
+    same-E (diadic o a c) n = same-joined o (raw.count-operand a) (raw.count-chain c) _ _ (raw.rows-operand a n) (raw.rows-chain c o (n + raw.count-operand a)) _ _ (length-operand a n)
+        (length-chain c o (n + raw.count-operand a)) (same-O a n) (same-C c o (n + raw.count-operand a))
 
     same-C : (c : Chain) (o n : ℕ) → Same (raw.rows-chain c o n) (of-chain text place c s)
     same-C (last a) o n = same-O a n
-    same-C (more a c) o n = same-joined o (raw.count-operand a) (raw.count-chain c) _ _ (raw.rows-operand a n) (raw.rows-chain c o (n + raw.count-operand a)) _ _ (length-operand a n) (length-chain c o (n + raw.count-operand a)) (same-O a n) (same-C c o (n + raw.count-operand a))
+    same-C (more a c) o n = same-joined o (raw.count-operand a) (raw.count-chain c) _ _ (raw.rows-operand a n) (raw.rows-chain c o (n + raw.count-operand a)) _ _ (length-operand a n)
+        (length-chain c o (n + raw.count-operand a)) (same-O a n) (same-C c o (n + raw.count-operand a))
 
     same-O : (a : Operand) (n : ℕ) → Same (raw.rows-operand a n) (of-operand text place a s)
-    same-O (grammar.constant v) n = record { is = ap least (one-row 3 v 0 0) }
-    same-O (grammar.variable x) n = record { is = ap least (one-row 4 x 0 0) }
-    same-O (element x e) n = same-last (raw.count-expression e) 5 x _ _ (raw.rows-expression e n) _ (length-expression e n) (same-E e n)
+    same-O (grammar.constant v) n = record { is = ap least (one-row layout.number v 0 0) }
+    same-O (grammar.variable x) n = record { is = ap least (one-row layout.variable x 0 0) }
+    same-O (element x e) n = same-last (raw.count-expression e) layout.element x _ _ (raw.rows-expression e n) _ (length-expression e n) (same-E e n)
     same-O (bracketed e) n = same-E e n
 
   mutual
     unfolding raw.rows-process
 
     same-P : (p : Process) (n : ℕ) → Same (raw.rows-process p n) (of-process text place p s)
-    same-P skip n = record { is = ap least (one-row 8 0 0 0) }
-    same-P stop n = record { is = ap least (one-row 9 0 0 0) }
-    same-P (assign x e) n = same-last (raw.count-expression e) 10 x _ _ (raw.rows-expression e n) _ (length-expression e n) (same-E e n)
+    same-P skip n = record { is = ap least (one-row layout.skip 0 0 0) }
+    same-P stop n = record { is = ap least (one-row layout.stop 0 0 0) }
+    same-P (assign x e) n = same-last (raw.count-expression e) layout.assign x _ _ (raw.rows-expression e n) _ (length-expression e n) (same-E e n)
     same-P (assign-element x i e) n =
         let c = raw.count-expression i in
         let d = raw.count-expression e in
-        same-last (c + d) 11 x _ _ (raw.rows-expression i n ++ raw.rows-expression e (n + c)) (of-expression text place i s ++ of-expression text place e s)
+        same-last (c + d) layout.assign-element x _ _ (raw.rows-expression i n ++ raw.rows-expression e (n + c)) (of-expression text place i s ++ of-expression text place e s)
         (length-append (raw.rows-expression i n) (raw.rows-expression e (n + c)) ∙ omega (arith, length-expression i n, length-expression e (n + c)))
         (same-append c (raw.rows-expression i n) (raw.rows-expression e (n + c)) (of-expression text place i s) (of-expression text place e s) (length-expression i n) (same-E i n) (same-E e (n + c)))
-    same-P empty n = record { is = ap least (one-row 8 0 0 0) }
+    same-P empty n = record { is = ap least (one-row layout.skip 0 0 0) }
     same-P (braces ps) n = same-L ps n
     same-P (conditional e p q) n =
         let c = raw.count-expression e in
@@ -209,12 +214,12 @@ module _ (text : ℕ → List ℕ) (place : ℕ → ℕ) (s : Scope) where
         let xy = length-append xs ys in
         let two = same-append (c + a) (xs ++ ys) zs (of-expression text place e s ++ of-process text place p s) (of-process text place q s) (omega arith)
         (same-append c xs ys (of-expression text place e s) (of-process text place p s) lx (same-E e n) (same-P p (n + c))) (same-P q (n + c + a)) in
-        let whole = same-plain (c + a + b) 13 (n + c - 1) (n + c + a - 1) (n + c + a + b - 1) (xs ++ ys ++ zs) _ (omega (arith, length-append (xs ++ ys) zs)) refl two in
+        let whole = same-plain (c + a + b) layout.if (n + c - 1) (n + c + a - 1) (n + c + a + b - 1) (xs ++ ys ++ zs) _ (omega (arith, length-append (xs ++ ys) zs)) refl two in
         record { is = whole .is ∙ ap least (append-assoc (of-expression text place e s) (of-process text place p s) (of-process text place q s)) }
     same-P (while e p) n =
         let c = raw.count-expression e in
         let a = raw.count-process p in
-        same-plain (c + a) 14 _ _ _ (raw.rows-expression e n ++ raw.rows-process p (n + c)) (of-expression text place e s ++ of-process text place p s)
+        same-plain (c + a) layout.while _ _ _ (raw.rows-expression e n ++ raw.rows-process p (n + c)) (of-expression text place e s ++ of-process text place p s)
         (length-append (raw.rows-expression e n) (raw.rows-process p (n + c)) ∙ omega (arith, length-expression e n, length-process p (n + c))) refl
         (same-append c (raw.rows-expression e n) (raw.rows-process p (n + c)) (of-expression text place e s) (of-process text place p s) (length-expression e n) (same-E e n) (same-P p (n + c)))
     same-P (after-comment p) n = same-P p n
@@ -224,7 +229,7 @@ module _ (text : ℕ → List ℕ) (place : ℕ → ℕ) (s : Scope) where
     same-L (followed p ps) n =
         let a = raw.count-process p in
         let b = raw.count-processes ps in
-        same-plain (a + b) 12 _ _ _ (raw.rows-process p n ++ raw.rows-processes ps (n + a)) (of-process text place p s ++ of-processes text place ps s)
+        same-plain (a + b) layout.sequence _ _ _ (raw.rows-process p n ++ raw.rows-processes ps (n + a)) (of-process text place p s ++ of-processes text place ps s)
         (length-append (raw.rows-process p n) (raw.rows-processes ps (n + a)) ∙ omega (arith, length-process p n, length-processes ps (n + a))) refl
         (same-append a (raw.rows-process p n) (raw.rows-processes ps (n + a)) (of-process text place p s) (of-processes text place ps s) (length-process p n) (same-P p n) (same-L ps (n + a)))
 

@@ -8,6 +8,7 @@ ghost use Rattle.instructions.specs.Write.{Room, Wrote};
 use instructions::put;
 use instructions::put_four;
 use instructions::put_three;
+use program::operator;
 use thumb::Instr;
 
 // The word on the stack gives way to the result of the monadic operator of number o.
@@ -15,7 +16,7 @@ pub fn monadic(code: &mut [u8], at: usize, o: u32) -> usize
     requires { ⌜ Room (now code) at (work-monadic-code (monadic-of o)) ⌝ }
     ensures { λ r. ⌜ Wrote (now (code .entry)) at (work-monadic-code (monadic-of o)) (now (code .exit)) r ⌝ }
 {
-    if o == 1 {
+    if o == operator::NEGATE {
         return put_three(
             code,
             at,
@@ -91,28 +92,28 @@ fn diadic_instructions(code: &mut [u8], at: usize, o: u32) -> usize
     ensures { λ r. ⌜ Wrote (now (code .entry)) at (diadic-instructions (diadic-of o)) (now (code .exit)) r ⌝ }
 {
     match o {
-        1 => put(code, at, Instr::Addr(1, 0, 0)),
-        2 => put(code, at, Instr::Subr(1, 0, 0)),
-        3 => put(code, at, Instr::Mul(1, 0)),
-        4 => put(code, at, Instr::Andr(1, 0)),
-        5 => put(code, at, Instr::Orr(1, 0)),
-        6 => put(code, at, Instr::Xorr(1, 0)),
-        7 => {
+        operator::PLUS => put(code, at, Instr::Addr(1, 0, 0)),
+        operator::MINUS => put(code, at, Instr::Subr(1, 0, 0)),
+        operator::TIMES => put(code, at, Instr::Mul(1, 0)),
+        operator::AND => put(code, at, Instr::Andr(1, 0)),
+        operator::OR => put(code, at, Instr::Orr(1, 0)),
+        operator::XOR => put(code, at, Instr::Xorr(1, 0)),
+        operator::SHIFT_RIGHT => {
             let next = far_shift(code, at);
             put(code, next, Instr::Shr(1, 0))
         }
-        8 => {
+        operator::SHIFT_LEFT => {
             let next = far_shift(code, at);
             put(code, next, Instr::Shl(1, 0))
         }
-        9 => equality(code, at, Instr::Subi(0, 1)),
-        10 => equality(code, at, Instr::Negr(0, 0)),
-        11 => less_than(code, at, 0, 1),
-        12 => {
+        operator::EQUAL => equality(code, at, Instr::Subi(0, 1)),
+        operator::UNEQUAL => equality(code, at, Instr::Negr(0, 0)),
+        operator::LESS => less_than(code, at, 0, 1),
+        operator::AT_MOST => {
             let next = less_than(code, at, 1, 0);
             put(code, next, Instr::Mvnr(0, 0))
         }
-        13 => less_than(code, at, 1, 0),
+        operator::GREATER => less_than(code, at, 1, 0),
         _ => {
             let next = less_than(code, at, 0, 1);
             put(code, next, Instr::Mvnr(0, 0))

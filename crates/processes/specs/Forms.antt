@@ -11,11 +11,21 @@ use Rattle.grammar.specs.Depth.{depth-process, depth-processes, deepest-process
 use Rattle.expressions.specs.Reads.{Form}
 
 abbrev pub process-form : Form
-process-form = record { Tree = Process; count = count-process; rows = rows-process; depth = depth-process; deepest = deepest-process; Context = ProcessContext; need = need-process; have = have-process }
+process-form = record
+    { Tree = Process; count = count-process; rows = rows-process; depth = depth-process; deepest = deepest-process; Context = ProcessContext; need = need-process; have = have-process }
 
 -- the processes after an opening brace, and the closing brace
 abbrev pub list-form : Form
-list-form = record { Tree = Processes; count = count-processes; rows = rows-processes; depth = depth-processes; deepest = deepest-processes; Context = ListContext; need = λ k. need-process (in-braces k); have = λ ps k. have-process (braces (list-built k ps)) (list-base k) }
+list-form = record {
+  Tree = Processes;
+  count = count-processes;
+  rows = rows-processes;
+  depth = depth-processes;
+  deepest = deepest-processes;
+  Context = ListContext;
+  need = λ k. need-process (in-braces k);
+  have = λ ps k. have-process (braces (list-built k ps)) (list-base k);
+}
 
 -- the tokens from i on, up to j, are comments
 pub record Comments (kinds : List ℕ) (i j : ℕ) : Type 0 where

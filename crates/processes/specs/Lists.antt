@@ -8,6 +8,8 @@ use lib.ListN.{getD}
 use lib.Seq.{sets}
 use Rattle.spelling.specs.Kinds as kind
 use Rattle.grammar.specs.Rows.{row}
+use Rattle.program.specs.Layout.{row-words}
+use Rattle.program.specs.Layout as layout
 use Rattle.expressions.specs.Reads.{Reads}
 use Rattle.expressions.specs.declared.Read.{Read}
 use Rattle.expressions.specs.declared.Read.the-variants.{Done, Bad}
@@ -27,20 +29,21 @@ kept-then a b c top below e h g = record { same = λ x l. g .same x (omega arith
 -- the joints of the c processes whose last rows wait from top on, the last first: the first joint is row m, and each joins a process to the row before
 unfoldable pub joints : List ℕ → ℕ → List ℕ → ℕ → ℕ → List ℕ
 joints t m pending top zero = t
-joints t m pending top (suc c) = joints (sets t (4 * m) (row 12 (getD pending (top + c) 0) (m - 1) 0)) (m + 1) pending top c
+joints t m pending top (suc c) = joints (sets t (row-words * m) (row layout.sequence (getD pending (top + c) 0) (m - 1) 0)) (m + 1) pending top c
 
 pub joints-kept : (c : ℕ) (t : List ℕ) (m : ℕ) (pending pending′ : List ℕ) (top : ℕ) → Kept pending pending′ (top + c) → joints t m pending′ top c ≡ joints t m pending top c
 unfolding joints
 joints-kept zero t m pending pending′ top h = refl
 joints-kept (suc c) t m pending pending′ top h =
-    ap (λ (a : ℕ). joints (sets t (4 * m) (row 12 a (m - 1) 0)) (m + 1) pending′ top c) (h .same (top + c) (omega arith))
+    ap (λ (a : ℕ). joints (sets t (row-words * m) (row layout.sequence a (m - 1) 0)) (m + 1) pending′ top c) (h .same (top + c) (omega arith))
     ∙ joints-kept c _ (m + 1) pending pending′ top (record { same = λ x l. h .same x (omega arith) })
 
 pub joints-none : (t : List ℕ) (m : ℕ) (pending : List ℕ) (top c : ℕ) → c ≡ 0 → joints t m pending top c ≡ t
 unfolding joints
 joints-none t m pending top c e = rw e refl
 
-pub joints-more : (t : List ℕ) (m : ℕ) (pending : List ℕ) (top c c′ : ℕ) → c ≡ c′ + 1 → joints t m pending top c ≡ joints (sets t (4 * m) (row 12 (getD pending (top + c′) 0) (m - 1) 0)) (m + 1) pending top c′
+pub joints-more : (t : List ℕ) (m : ℕ) (pending : List ℕ) (top c c′ : ℕ) → c ≡ c′ + 1
+    → joints t m pending top c ≡ joints (sets t (row-words * m) (row layout.sequence (getD pending (top + c′) 0) (m - 1) 0)) (m + 1) pending top c′
 unfolding joints
 joints-more t m pending top c c′ e = ap (λ (a : ℕ). joints t m pending top a) (let e2 : c ≡ suc c′ = omega arith in e2)
 
@@ -81,19 +84,26 @@ module _ (kinds values : List ℕ) (i n : ℕ) (t : List ℕ) where
       pub resumes-stop : ¬ (getD kinds j 0 ≡ kind.semicolon) → ¬ (getD kinds j 0 ≡ kind.close-brace) → Reads list-form kinds values i n t (Bad j) t″
       resumes-stop y z = g .whole (Bad j) t″ (list-stop kinds values at place t′ j m a b t″ h y z)
 
-      pub resumes-last : (pending′ : List ℕ) → Kept pending pending′ (top + c) → getD kinds j 0 ≡ kind.close-brace → Reads list-form kinds values i n t (Done (j + 1) (m + c) (max p a) (max d b)) (joints t″ m pending′ top c)
+      pub resumes-last : (pending′ : List ℕ) → Kept pending pending′ (top + c) → getD kinds j 0 ≡ kind.close-brace
+          → Reads list-form kinds values i n t (Done (j + 1) (m + c) (max p a) (max d b)) (joints t″ m pending′ top c)
       resumes-last pending′ k e = rw (joints-kept c t″ m pending pending′ top k) (g .whole (Done (j + 1) m a b) t″ (list-last kinds values at place t′ j m a b t″ h e))
 
       -- one more process and its semicolon
-      more : (pending′ : List ℕ) → Kept pending pending′ (top + c) → getD pending′ (top + c) 0 ≡ m - 1 → getD kinds j 0 ≡ kind.semicolon → (r : Read) (u : List ℕ) → Reads list-form kinds values (j + 1) m t″ r u → Reads list-form kinds values i n t (joined (c + 1) (max p a) (max d b) r) (jointed u r pending′ top (c + 1))
+      more : (pending′ : List ℕ) → Kept pending pending′ (top + c) → getD pending′ (top + c) 0 ≡ m - 1 → getD kinds j 0 ≡ kind.semicolon → (r : Read) (u : List ℕ)
+          → Reads list-form kinds values (j + 1) m t″ r u → Reads list-form kinds values i n t (joined (c + 1) (max p a) (max d b) r) (jointed u r pending′ top (c + 1))
       more pending′ k f e (Done j′ l x y) u q =
-          let o = g .whole (Done j′ (l + 1) (max a x + 0) (max b y + 0)) (sets u (4 * l) (row 12 (m - 1) (l - 1) 0)) (list-more kinds values at place t′ j m a b t″ h (Done j′ l x y) u e q) in
+          let o = g .whole (Done j′ (l + 1) (max a x + 0) (max b y + 0)) (sets u (row-words * l) (row layout.sequence (m - 1) (l - 1) 0))
+          (list-more kinds values at place t′ j m a b t″ h (Done j′ l x y) u e q) in
           let e1 : l + 1 + c ≡ l + (c + 1) = omega arith in
           let e2 : max p (max a x + 0) ≡ max (max p a) x = omega arith in
           let e3 : max d (max b y + 0) ≡ max (max d b) y = omega arith in
-          let w : joints (sets u (4 * l) (row 12 (m - 1) (l - 1) 0)) (l + 1) pending top c ≡ joints u l pending′ top (c + 1) = sym (joints-more u l pending′ top (c + 1) c refl ∙ ap (λ (v : ℕ). joints (sets u (4 * l) (row 12 v (l - 1) 0)) (l + 1) pending′ top c) f ∙ joints-kept c (sets u (4 * l) (row 12 (m - 1) (l - 1) 0)) (l + 1) pending pending′ top k) in
-          subst (λ (z : Read). Reads list-form kinds values i n t z (joints u l pending′ top (c + 1))) (done-same j′ e1 e2 e3) (subst (λ (z : List ℕ). Reads list-form kinds values i n t (Done j′ (l + 1 + c) (max p (max a x + 0)) (max d (max b y + 0))) z) w o)
+          let w : joints (sets u (row-words * l) (row layout.sequence (m - 1) (l - 1) 0)) (l + 1) pending top c ≡ joints u l pending′ top (c + 1) =
+          sym (joints-more u l pending′ top (c + 1) c refl ∙ ap (λ (v : ℕ). joints (sets u (row-words * l) (row layout.sequence v (l - 1) 0)) (l + 1) pending′ top c) f
+          ∙ joints-kept c (sets u (row-words * l) (row layout.sequence (m - 1) (l - 1) 0)) (l + 1) pending pending′ top k) in
+          subst (λ (z : Read). Reads list-form kinds values i n t z (joints u l pending′ top (c + 1))) (done-same j′ e1 e2 e3)
+          (subst (λ (z : List ℕ). Reads list-form kinds values i n t (Done j′ (l + 1 + c) (max p (max a x + 0)) (max d (max b y + 0))) z) w o)
       more pending′ k f e (Bad x) u q = g .whole (Bad x) u (list-more kinds values at place t′ j m a b t″ h (Bad x) u e q)
 
-      pub resumes-more : (pending′ : List ℕ) → Kept pending pending′ (top + c) → getD pending′ (top + c) 0 ≡ m - 1 → getD kinds j 0 ≡ kind.semicolon → Resumes kinds values i n t (j + 1) m t″ pending′ top (c + 1) (max p a) (max d b)
+      pub resumes-more : (pending′ : List ℕ) → Kept pending pending′ (top + c) → getD pending′ (top + c) 0 ≡ m - 1 → getD kinds j 0 ≡ kind.semicolon
+          → Resumes kinds values i n t (j + 1) m t″ pending′ top (c + 1) (max p a) (max d b)
       resumes-more pending′ k f e = record { whole = more pending′ k f e }

@@ -8,9 +8,12 @@ use expressions::expression;
 use expressions::kind_at;
 use expressions::larger;
 use expressions::put;
+use program::row;
+use spelling::kind;
 ghost use mathlib.Core.Path.{_≡_};
 ghost use Prim.Native.Nat.{_+_, _<_, _≤_};
 ghost use lib.ListN.{length, getD};
+ghost use Rattle.spelling.specs.Kinds as token;
 ghost use Rattle.expressions.specs.Reads.{Reads, Fit};
 ghost use Rattle.processes.specs.Forms.{«process-form», «list-form», Comments};
 ghost use Rattle.processes.specs.Lists.{Kept, joints};
@@ -23,16 +26,16 @@ fn element_assignment(
     n: usize,
     i: usize,
 ) -> Read
-    requires { ⌜ (Fit (now kinds) (now values) n i) × (getD (now kinds) i 0 ≡ 2) × (getD (now kinds) (i + 1) 0 ≡ 6) ⌝ }
+    requires { ⌜ (Fit (now kinds) (now values) n i) × (getD (now kinds) i 0 ≡ token.name) × (getD (now kinds) (i + 1) 0 ≡ token.«open-subscript») ⌝ }
     ensures { λ r. ⌜ Reads «process-form» (now (kinds .entry)) (now (values .entry)) i n (now (table .entry)) r (now (table .exit)) ⌝ }
 {
     let e = expression(kinds, values, table, n, i + 2);
-    let s = close(kinds, e, 7);
-    match close(kinds, s, 12) {
+    let s = close(kinds, e, kind::CLOSE_SUBSCRIPT);
+    match close(kinds, s, kind::BECOMES) {
         Read::Bad(x) => Read::Bad(x),
         Read::Done(j, m, p, d) => {
             let v = expression(kinds, values, table, m, j);
-            let r = add_row_of_two(table, v, 11, i as u32, (m - 1) as u32);
+            let r = add_row_of_two(table, v, row::ASSIGN_ELEMENT, i as u32, (m - 1) as u32);
             deepen(r, 0, d + 1, 1, 0)
         }
     }
@@ -40,16 +43,16 @@ fn element_assignment(
 
 // An assignment to the name at token i.
 fn assignment(kinds: &[u8], values: &[u32], table: &mut [u32; 4096], n: usize, i: usize) -> Read
-    requires { ⌜ (Fit (now kinds) (now values) n i) × (getD (now kinds) i 0 ≡ 2) ⌝ }
+    requires { ⌜ (Fit (now kinds) (now values) n i) × (getD (now kinds) i 0 ≡ token.name) ⌝ }
     ensures { λ r. ⌜ Reads «process-form» (now (kinds .entry)) (now (values .entry)) i n (now (table .entry)) r (now (table .exit)) ⌝ }
 {
     let k = kind_at(kinds, i + 1);
-    if k == 12 {
+    if k == kind::BECOMES {
         let e = expression(kinds, values, table, n, i + 2);
-        let r = add_row(table, e, 10, i as u32);
+        let r = add_row(table, e, row::ASSIGN, i as u32);
         return deepen(r, 0, 0, 1, 0);
     }
-    if k == 6 {
+    if k == kind::OPEN_SUBSCRIPT {
         return element_assignment(kinds, values, table, n, i);
     }
     Read::Bad(i + 1)
@@ -58,10 +61,10 @@ fn assignment(kinds: &[u8], values: &[u32], table: &mut [u32; 4096], n: usize, i
 // The first token from i on that is no comment.
 fn past_comments(kinds: &[u8], i: usize) -> usize
     requires { ⌜ i ≤ length (now kinds) ⌝ }
-    ensures { λ j. ⌜ (Comments (now (kinds .entry)) i j) × (getD (now (kinds .entry)) j 0 ≡ 3 → ⊥) ⌝ }
+    ensures { λ j. ⌜ (Comments (now (kinds .entry)) i j) × (getD (now (kinds .entry)) j 0 ≡ token.comment → ⊥) ⌝ }
 {
     let mut j = i;
-    while kind_at(kinds, j) == 3 {
+    while kind_at(kinds, j) == kind::COMMENT {
         j += 1;
     }
     j
@@ -87,11 +90,18 @@ fn join(table: &mut [u32; 4096], pending: &[u16; 1024], top: usize, count: usize
     ensures { λ _. ⌜ now (table .exit) ≡ joints (now (table .entry)) m (now (pending .entry)) top count ⌝ }
 {
     let mut c = count;
-    let mut row = m;
+    let mut next = m;
     while 0 < c {
         c -= 1;
-        put(table, row, 12, wide(pending[top + c]), (row - 1) as u32, 0);
-        row += 1;
+        put(
+            table,
+            next,
+            row::SEQUENCE,
+            wide(pending[top + c]),
+            (next - 1) as u32,
+            0,
+        );
+        next += 1;
     }
 }
 
@@ -110,24 +120,24 @@ pub fn process(
 {
     let j = past_comments(kinds, i);
     let k = kind_at(kinds, j);
-    if k == 16 {
-        put(table, n, 8, 0, 0, 0);
+    if k == kind::SKIP {
+        put(table, n, row::SKIP, 0, 0, 0);
         return Read::Done(j + 1, n + 1, 1, 0);
     }
-    if k == 17 {
-        put(table, n, 9, 0, 0, 0);
+    if k == kind::STOP {
+        put(table, n, row::STOP, 0, 0, 0);
         return Read::Done(j + 1, n + 1, 1, 0);
     }
-    if k == 2 {
+    if k == kind::NAME {
         return assignment(kinds, values, table, n, j);
     }
-    if k == 8 {
+    if k == kind::OPEN_BRACE {
         return braces(kinds, values, table, pending, n, j, top);
     }
-    if k == 18 {
+    if k == kind::IF {
         return conditional(kinds, values, table, pending, n, j, top);
     }
-    if k == 21 {
+    if k == kind::WHILE {
         return repetition(kinds, values, table, pending, n, j, top);
     }
     Read::Bad(j)
@@ -143,11 +153,11 @@ fn braces(
     i: usize,
     top: usize,
 ) -> Read
-    requires { ⌜ (Fit (now kinds) (now values) n i) × (getD (now kinds) i 0 ≡ 8) × (top ≤ i) ⌝ }
+    requires { ⌜ (Fit (now kinds) (now values) n i) × (getD (now kinds) i 0 ≡ token.«open-brace») × (top ≤ i) ⌝ }
     ensures { λ r. ⌜ (Reads «process-form» (now (kinds .entry)) (now (values .entry)) i n (now (table .entry)) r (now (table .exit))) × (Kept (now (pending .entry)) (now (pending .exit)) top) ⌝ }
 {
-    if kind_at(kinds, i + 1) == 9 {
-        put(table, n, 8, 0, 0, 0);
+    if kind_at(kinds, i + 1) == kind::CLOSE_BRACE {
+        put(table, n, row::SKIP, 0, 0, 0);
         return Read::Done(i + 2, n + 1, 1, 0);
     }
     let r = list(kinds, values, table, pending, n, i + 1, top);
@@ -179,11 +189,11 @@ fn list(
                 depth = larger(depth, p);
                 deepest = larger(deepest, d);
                 let k = kind_at(kinds, j);
-                if k == 9 {
+                if k == kind::CLOSE_BRACE {
                     join(table, pending, top, count, m);
                     return Read::Done(j + 1, m + count, depth, deepest);
                 }
-                if k != 10 {
+                if k != kind::SEMICOLON {
                     return Read::Bad(j);
                 }
                 push(pending, top + count, (m - 1) as u16);
@@ -205,19 +215,19 @@ fn conditional(
     i: usize,
     top: usize,
 ) -> Read
-    requires { ⌜ (Fit (now kinds) (now values) n i) × (getD (now kinds) i 0 ≡ 18) × (top ≤ i) ⌝ }
+    requires { ⌜ (Fit (now kinds) (now values) n i) × (getD (now kinds) i 0 ≡ token.if) × (top ≤ i) ⌝ }
     ensures { λ r. ⌜ (Reads «process-form» (now (kinds .entry)) (now (values .entry)) i n (now (table .entry)) r (now (table .exit))) × (Kept (now (pending .entry)) (now (pending .exit)) top) ⌝ }
 {
     let e = expression(kinds, values, table, n, i + 1);
-    match close(kinds, e, 19) {
+    match close(kinds, e, kind::THEN) {
         Read::Bad(x) => Read::Bad(x),
         Read::Done(j, m, _, d) => {
             let t = process(kinds, values, table, pending, m, j, top);
-            match close(kinds, t, 20) {
+            match close(kinds, t, kind::ELSE) {
                 Read::Bad(x) => Read::Bad(x),
                 Read::Done(k, l, p, f) => {
                     let q = process(kinds, values, table, pending, l, k, top);
-                    let r = add_row_of_two(table, q, 13, (m - 1) as u32, (l - 1) as u32);
+                    let r = add_row_of_two(table, q, row::IF, (m - 1) as u32, (l - 1) as u32);
                     deepen(r, p, larger(d, f), 1, 0)
                 }
             }
@@ -235,15 +245,15 @@ fn repetition(
     i: usize,
     top: usize,
 ) -> Read
-    requires { ⌜ (Fit (now kinds) (now values) n i) × (getD (now kinds) i 0 ≡ 21) × (top ≤ i) ⌝ }
+    requires { ⌜ (Fit (now kinds) (now values) n i) × (getD (now kinds) i 0 ≡ token.while) × (top ≤ i) ⌝ }
     ensures { λ r. ⌜ (Reads «process-form» (now (kinds .entry)) (now (values .entry)) i n (now (table .entry)) r (now (table .exit))) × (Kept (now (pending .entry)) (now (pending .exit)) top) ⌝ }
 {
     let e = expression(kinds, values, table, n, i + 1);
-    match close(kinds, e, 22) {
+    match close(kinds, e, kind::DO) {
         Read::Bad(x) => Read::Bad(x),
         Read::Done(j, m, _, d) => {
             let p = process(kinds, values, table, pending, m, j, top);
-            let r = add_row(table, p, 14, (m - 1) as u32);
+            let r = add_row(table, p, row::WHILE, (m - 1) as u32);
             deepen(r, 0, d, 1, 0)
         }
     }

@@ -25,18 +25,3 @@ abbrev mutual
   pub deepest-of : Processes → ℕ
   deepest-of none = 0
   deepest-of (also p ps) = max (deepest p) (deepest-of ps)
-
--- "Skip, stop and assignment are process depth 1; if, while and braces add 1, so `{ }` is 1"
-abbrev mutual
-  pub process-depth : Process → ℕ
-  process-depth skip = 1
-  process-depth stop = 1
-  process-depth (assign v e) = 1
-  process-depth (assign-element a s e) = 1
-  process-depth (braces ps) = suc (process-depth-of ps)
-  process-depth (conditional e p q) = suc (max (process-depth p) (process-depth q))
-  process-depth (loop e p) = suc (process-depth p)
-
-  pub process-depth-of : Processes → ℕ
-  process-depth-of none = 0
-  process-depth-of (also p ps) = max (process-depth p) (process-depth-of ps)

@@ -1,8 +1,9 @@
--- Resolved programs: the tree with offsets in it, its depth, the tree of the syntax table, and the table's rows.
+-- Resolved programs: the tree with offsets in it, its depth, the tree of the syntax table, and the table's layout and rows.
 pub mod Tree
 pub mod Depth
 pub mod Core
 pub mod Resolved
+pub mod Layout
 pub mod Rows
 pub mod Table
 pub mod TableLaws

@@ -5,7 +5,10 @@ use Prim.Native.Nat.{ℕ, suc, _+_, _-_, _*_, _<_}
 use native.Mathlib.Omega.{arith}
 use lib.ListN.{length, getD, length-append, List·getD-append}
 use lib.Seq.{getD-append-add}
-use Rattle.program.specs.Tree.{Monadic, negate, invert, Diadic, plus, minus, times, bit-and, bit-or, bit-xor, right, left, equal, unequal, less, at-most, greater, at-least, Variable, Array, Declaration, var, array, words-of, Program}
+use Rattle.program.specs.Layout.{row-words}
+use Rattle.program.specs.Layout as layout
+use Rattle.program.specs.Tree.{Monadic, negate, invert, Diadic, plus, minus, times, bit-and, bit-or, bit-xor, right, left, equal, unequal, less, at-most, greater, at-least, Variable, Array}
+use Rattle.program.specs.Tree.{Declaration, var, array, words-of, Program}
 use Rattle.program.specs.Core.{Expression, constant, variable, element, monadic, diadic, Process, skip, stop, assign, assign-element, sequence, conditional, loop, core-process}
 use Rattle.program.specs.Rows.{monadic-number, diadic-number, row, count, rows, count-process, rows-process, row-of, declared-rows, table-of, row-count}
 use Rattle.program.specs.Table.{word, monadic-of, diadic-of, variable-in, array-in, expression-at, process-at}
@@ -14,7 +17,7 @@ use Rattle.program.specs.Sound.{Declares, here, later, IsVariable, IsArr
 
 -- ── lengths ──
 
-pub length-rows : (e : Expression) (n : ℕ) → length (rows e n) ≡ 4 * count e
+pub length-rows : (e : Expression) (n : ℕ) → length (rows e n) ≡ row-words * count e
 unfolding rows count
 length-rows (constant w) n = refl
 length-rows (variable v) n = refl
@@ -30,7 +33,7 @@ some-rows (element a e) = omega arith
 some-rows (monadic o e) = omega arith
 some-rows (diadic o e f) = omega arith
 
-pub length-rows-process : (p : Process) (n : ℕ) → length (rows-process p n) ≡ 4 * count-process p
+pub length-rows-process : (p : Process) (n : ℕ) → length (rows-process p n) ≡ row-words * count-process p
 unfolding rows-process count-process
 length-rows-process skip n = refl
 length-rows-process stop n = refl
@@ -51,13 +54,13 @@ some-rows-process (sequence p q) = omega arith
 some-rows-process (conditional e p q) = omega arith
 some-rows-process (loop e p) = omega arith
 
-pub length-declared : (ds : List Declaration) (k : ℕ) → length (declared-rows ds k) ≡ 4 * length ds
+pub length-declared : (ds : List Declaration) (k : ℕ) → length (declared-rows ds k) ≡ row-words * length ds
 unfolding declared-rows
 length-declared [] k = refl
 length-declared (var ∷ ds) k = omega (arith, length-declared ds (k + 1))
 length-declared (array n ∷ ds) k = omega (arith, length-declared ds (k + n))
 
-pub length-table : (p : Program) → length (table-of p) ≡ 4 * row-count p
+pub length-table : (p : Program) → length (table-of p) ≡ row-words * row-count p
 unfolding table-of row-count
 length-table p =
     simp length-append (omega (arith, length-declared (p .declarations) 0, length-rows-process (core-process (p .body)) (length (p .declarations))))
@@ -65,21 +68,18 @@ length-table p =
 -- ── a table that holds rows from a row on ──
 
 pub record Holds (t : List ℕ) (n : ℕ) (xs : List ℕ) : Type 0 where
-  pub at : (k : ℕ) → k < length xs → getD t (4 * n + k) 0 ≡ getD xs k 0
+  pub at : (k : ℕ) → k < length xs → getD t (row-words * n + k) 0 ≡ getD xs k 0
 
 module _ {t : List ℕ} {n : ℕ} (xs ys : List ℕ) where
   pub front : Holds t n (xs ++ ys) → Holds t n xs
   front h = record { at = λ k l. h .at k (omega (arith, length-append xs ys)) ∙ List·getD-append xs ys 0 k l }
 
-  pub behind : (s : ℕ) → length xs ≡ 4 * s → Holds t n (xs ++ ys) → Holds t (n + s) ys
+  pub behind : (s : ℕ) → length xs ≡ row-words * s → Holds t n (xs ++ ys) → Holds t (n + s) ys
   behind s e h = record {
     at = λ k l.
-        let f : 4 * (n + s) + k ≡ 4 * n + (length xs + k) = omega arith in
+        let f : row-words * (n + s) + k ≡ row-words * n + (length xs + k) = omega arith in
         ap (λ (m : ℕ). getD t m 0) f ∙ h .at (length xs + k) (omega (arith, length-append xs ys)) ∙ getD-append-add xs ys k 0;
   }
-
-pub holds-itself : (t : List ℕ) → Holds t 0 t
-holds-itself t = record { at = λ k l. ap (λ (m : ℕ). getD t m 0) (omega arith) }
 
 -- ── operators ──
 
@@ -110,7 +110,7 @@ holds-row : (t : List ℕ) (n k : ℕ) (d : Declaration) → Holds t n (row-of d
 holds-row t n k var h = (h .at 1 (omega arith), h .at 2 (omega arith))
 holds-row t n k (array m) h = (h .at 1 (omega arith), h .at 2 (omega arith))
 
-length-row-of : (d : Declaration) (k : ℕ) → length (row-of d k) ≡ 4 * 1
+length-row-of : (d : Declaration) (k : ℕ) → length (row-of d k) ≡ row-words * 1
 length-row-of var k = refl
 length-row-of (array n) k = refl
 
@@ -158,22 +158,22 @@ module _ (t : List ℕ) (ds : List Declaration) (holds : Holds t 0 (declared-row
       rw r (at-variable t n (h .at 0 (omega arith)) ∙ ap (λ (x : ℕ). variable (variable-in t x)) (h .at 1 (omega arith)) ∙ ap variable (variable-back v s))
   read-expression (element a e) n s h =
       let r : n + (count e + 1) - 1 ≡ n + count e = omega arith in
-      let g = behind (rows e n) (row 5 (a .row) (n + count e - 1) 0) (count e) (length-rows e n) h in
+      let g = behind (rows e n) (row layout.element (a .row) (n + count e - 1) 0) (count e) (length-rows e n) h in
       let b = g .at 2 (omega arith) in
       let z = some-rows e in
       rw r (at-element t (n + count e) (g .at 0 (omega arith)) (omega arith)
       ∙ ap₂ element (ap (array-in t) (g .at 1 (omega arith)) ∙ array-back a (s .0))
-      (ap (expression-at t) b ∙ read-expression e n (s .1) (front (rows e n) (row 5 (a .row) (n + count e - 1) 0) h)))
+      (ap (expression-at t) b ∙ read-expression e n (s .1) (front (rows e n) (row layout.element (a .row) (n + count e - 1) 0) h)))
   read-expression (monadic o e) n s h =
       let r : n + (count e + 1) - 1 ≡ n + count e = omega arith in
-      let g = behind (rows e n) (row 6 (monadic-number o) (n + count e - 1) 0) (count e) (length-rows e n) h in
+      let g = behind (rows e n) (row layout.monadic (monadic-number o) (n + count e - 1) 0) (count e) (length-rows e n) h in
       let b = g .at 2 (omega arith) in
       let z = some-rows e in
       rw r (at-monadic t (n + count e) (g .at 0 (omega arith)) (omega arith)
       ∙ ap₂ monadic (ap monadic-of (g .at 1 (omega arith)) ∙ monadic-back o)
-      (ap (expression-at t) b ∙ read-expression e n s (front (rows e n) (row 6 (monadic-number o) (n + count e - 1) 0) h)))
+      (ap (expression-at t) b ∙ read-expression e n s (front (rows e n) (row layout.monadic (monadic-number o) (n + count e - 1) 0) h)))
   read-expression (diadic o e f) n s h =
-      let last = row 7 (diadic-number o) (n + count e - 1) (n + count e + count f - 1) in
+      let last = row layout.diadic (diadic-number o) (n + count e - 1) (n + count e + count f - 1) in
       let r : n + (count e + count f + 1) - 1 ≡ n + count e + count f = omega arith in
       let g = behind (rows e n) (rows f (n + count e) ++ last) (count e) (length-rows e n) h in
       let l = behind (rows f (n + count e)) last (count f) (length-rows f (n + count e)) g in
@@ -193,14 +193,14 @@ module _ (t : List ℕ) (ds : List Declaration) (holds : Holds t 0 (declared-row
   read-process skip n s h = let r : n + 1 - 1 ≡ n = omega arith in rw r (at-skip t n (h .at 0 (omega arith)))
   read-process stop n s h = let r : n + 1 - 1 ≡ n = omega arith in rw r (at-stop t n (h .at 0 (omega arith)))
   read-process (assign v e) n s h =
-      let last = row 10 (v .row) (n + count e - 1) 0 in
+      let last = row layout.assign (v .row) (n + count e - 1) 0 in
       let r : n + (count e + 1) - 1 ≡ n + count e = omega arith in
       let g = behind (rows e n) last (count e) (length-rows e n) h in
       rw r (at-assign t (n + count e) (g .at 0 (omega arith))
       ∙ ap₂ assign (ap (variable-in t) (g .at 1 (omega arith)) ∙ variable-back v (s .0))
       (ap (expression-at t) (g .at 2 (omega arith)) ∙ read-expression e n (s .1) (front (rows e n) last h)))
   read-process (assign-element a i e) n s h =
-      let last = row 11 (a .row) (n + count i - 1) (n + count i + count e - 1) in
+      let last = row layout.assign-element (a .row) (n + count i - 1) (n + count i + count e - 1) in
       let r : n + (count i + count e + 1) - 1 ≡ n + count i + count e = omega arith in
       let g = behind (rows i n) (rows e (n + count i) ++ last) (count i) (length-rows i n) h in
       let l = behind (rows e (n + count i)) last (count e) (length-rows e (n + count i)) g in
@@ -213,7 +213,7 @@ module _ (t : List ℕ) (ds : List Declaration) (holds : Holds t 0 (declared-row
   read-process (sequence p q) n s h =
       let a = count-process p in
       let b = count-process q in
-      let last = row 12 (n + a - 1) (n + a + b - 1) 0 in
+      let last = row layout.sequence (n + a - 1) (n + a + b - 1) 0 in
       let r : n + (a + b + 1) - 1 ≡ n + a + b = omega arith in
       let g = behind (rows-process p n) (rows-process q (n + a) ++ last) a (length-rows-process p n) h in
       let l = behind (rows-process q (n + a)) last b (length-rows-process q (n + a)) g in
@@ -229,7 +229,7 @@ module _ (t : List ℕ) (ds : List Declaration) (holds : Holds t 0 (declared-row
       let c = count e in
       let a = count-process p in
       let b = count-process q in
-      let last = row 13 (n + c - 1) (n + c + a - 1) (n + c + a + b - 1) in
+      let last = row layout.if (n + c - 1) (n + c + a - 1) (n + c + a + b - 1) in
       let r : n + (c + a + b + 1) - 1 ≡ n + c + a + b = omega arith in
       let f = behind (rows e n) (rows-process p (n + c) ++ (rows-process q (n + c + a) ++ last)) c (length-rows e n) h in
       let g = behind (rows-process p (n + c)) (rows-process q (n + c + a) ++ last) a (length-rows-process p (n + c)) f in
@@ -248,7 +248,7 @@ module _ (t : List ℕ) (ds : List Declaration) (holds : Holds t 0 (declared-row
   read-process (loop e p) n s h =
       let c = count e in
       let a = count-process p in
-      let last = row 14 (n + c - 1) (n + c + a - 1) 0 in
+      let last = row layout.while (n + c - 1) (n + c + a - 1) 0 in
       let r : n + (c + a + 1) - 1 ≡ n + c + a = omega arith in
       let g = behind (rows e n) (rows-process p (n + c) ++ last) c (length-rows e n) h in
       let l = behind (rows-process p (n + c)) last a (length-rows-process p (n + c)) g in

@@ -5,7 +5,8 @@ use native.Mathlib.Omega.{arith}
 use mathlib.Core.Bool.{true, false}
 use mathlib.Core.List.{List, [], _∷_}
 use borrow.Author.Tests.{le-ltb}
-use Rattle.program.specs.Tree.{Variable, Array, Declaration, words-of, data-words, array-word, Expression, constant, variable, element, monadic, diadic, bracket, Process, skip, stop, assign, assign-element, braces, conditional, loop, Processes, none, also}
+use Rattle.program.specs.Tree.{Variable, Array, Declaration, words-of, data-words, array-word, Expression, constant, variable, element, monadic, diadic, bracket, Process, skip, stop}
+use Rattle.program.specs.Tree.{assign, assign-element, braces, conditional, loop, Processes, none, also}
 
 -- a variable is a declared word outside of every array
 pub record DeclaredVariable (ds : List Declaration) (v : Variable) : Type 0 where

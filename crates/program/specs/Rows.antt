@@ -2,7 +2,9 @@
 use Prim.Native.Nat.{ℕ, _+_, _-_}
 use mathlib.Core.List.{List, [], _∷_, _++_}
 use lib.ListN.{length}
-use Rattle.program.specs.Tree.{Monadic, negate, invert, Diadic, plus, minus, times, bit-and, bit-or, bit-xor, right, left, equal, unequal, less, at-most, greater, at-least, Declaration, var, array, words-of, Program}
+use Rattle.program.specs.Layout as layout
+use Rattle.program.specs.Tree.{Monadic, negate, invert, Diadic, plus, minus, times, bit-and, bit-or, bit-xor, right, left, equal, unequal, less, at-most, greater, at-least, Declaration}
+use Rattle.program.specs.Tree.{var, array, words-of, Program}
 use Rattle.program.specs.Core.{Expression, constant, variable, element, monadic, diadic, Process, skip, stop, assign, assign-element, sequence, conditional, loop, core-process}
 
 -- The syntax table: "Monadic: 1 `-`, 2 not"
@@ -41,11 +43,11 @@ count (diadic o e f) = count e + count f + 1
 
 -- the rows of an expression, the first with number n, "in the order in which they complete": a part's own row is its last
 unfoldable pub rows : Expression → ℕ → List ℕ
-rows (constant w) n = row 3 w 0 0
-rows (variable v) n = row 4 (v .row) 0 0
-rows (element a e) n = rows e n ++ row 5 (a .row) (n + count e - 1) 0
-rows (monadic o e) n = rows e n ++ row 6 (monadic-number o) (n + count e - 1) 0
-rows (diadic o e f) n = rows e n ++ (rows f (n + count e) ++ row 7 (diadic-number o) (n + count e - 1) (n + count e + count f - 1))
+rows (constant w) n = row layout.number w 0 0
+rows (variable v) n = row layout.variable (v .row) 0 0
+rows (element a e) n = rows e n ++ row layout.element (a .row) (n + count e - 1) 0
+rows (monadic o e) n = rows e n ++ row layout.monadic (monadic-number o) (n + count e - 1) 0
+rows (diadic o e f) n = rows e n ++ (rows f (n + count e) ++ row layout.diadic (diadic-number o) (n + count e - 1) (n + count e + count f - 1))
 
 unfoldable pub count-process : Process → ℕ
 count-process skip = 1
@@ -57,23 +59,23 @@ count-process (conditional e p q) = count e + count-process p + count-process q 
 count-process (loop e p) = count e + count-process p + 1
 
 unfoldable pub rows-process : Process → ℕ → List ℕ
-rows-process skip n = row 8 0 0 0
-rows-process stop n = row 9 0 0 0
-rows-process (assign v e) n = rows e n ++ row 10 (v .row) (n + count e - 1) 0
-rows-process (assign-element a s e) n = rows s n ++ (rows e (n + count s) ++ row 11 (a .row) (n + count s - 1) (n + count s + count e - 1))
+rows-process skip n = row layout.skip 0 0 0
+rows-process stop n = row layout.stop 0 0 0
+rows-process (assign v e) n = rows e n ++ row layout.assign (v .row) (n + count e - 1) 0
+rows-process (assign-element a s e) n = rows s n ++ (rows e (n + count s) ++ row layout.assign-element (a .row) (n + count s - 1) (n + count s + count e - 1))
 rows-process (sequence p q) n =
-    rows-process p n ++ (rows-process q (n + count-process p) ++ row 12 (n + count-process p - 1) (n + count-process p + count-process q - 1) 0)
+    rows-process p n ++ (rows-process q (n + count-process p) ++ row layout.sequence (n + count-process p - 1) (n + count-process p + count-process q - 1) 0)
 rows-process (conditional e p q) n =
     rows e n
     ++ (rows-process p (n + count e)
     ++ (rows-process q (n + count e + count-process p)
-    ++ row 13 (n + count e - 1) (n + count e + count-process p - 1) (n + count e + count-process p + count-process q - 1)))
-rows-process (loop e p) n = rows e n ++ (rows-process p (n + count e) ++ row 14 (n + count e - 1) (n + count e + count-process p - 1) 0)
+    ++ row layout.if (n + count e - 1) (n + count e + count-process p - 1) (n + count e + count-process p + count-process q - 1)))
+rows-process (loop e p) n = rows e n ++ (rows-process p (n + count e) ++ row layout.while (n + count e - 1) (n + count e + count-process p - 1) 0)
 
 -- "1 var (word offset, 1); 2 array (offset, length); offsets in order of declaration": the rows of declarations, the first of which has offset k
 abbrev pub row-of : Declaration → ℕ → List ℕ
-row-of var k = row 1 k 1 0
-row-of (array n) k = row 2 k n 0
+row-of var k = row layout.var k 1 0
+row-of (array n) k = row layout.array k n 0
 
 unfoldable pub declared-rows : List Declaration → ℕ → List ℕ
 declared-rows [] k = []

@@ -3,7 +3,8 @@ use mathlib.Core.Path.{_≡_}
 use mathlib.Core.List.{List}
 use Prim.Native.Nat.{_+_}
 use native.Mathlib.Omega.{arith}
-use Rattle.program.specs.Tree.{Variable, Array, Declaration, Program, Expression, constant, variable, element, monadic, diadic, bracket, Process, skip, stop, assign, assign-element, braces, conditional, loop, Processes, none, also}
+use Rattle.program.specs.Tree.{Variable, Array, Declaration, Program, Expression, constant, variable, element, monadic, diadic, bracket, Process, skip, stop, assign, assign-element, braces}
+use Rattle.program.specs.Tree.{conditional, loop, Processes, none, also}
 use Rattle.program.specs.Core.{core, core-process, core-list, joined}
 use Rattle.program.specs.Sound.{IsVariable, IsArray, Lengths, SoundExpression, SoundProcess, Sound, declared-inside, declared-array, length-of}
 use Rattle.program.specs.Resolved.{DeclaredVariable, DeclaredArray, Resolved, ResolvedProcess, ResolvedAll}

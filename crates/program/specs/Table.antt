@@ -4,8 +4,11 @@ use Prim.Native.Nat.{ℕ, zero, suc, _+_, _*_}
 use lib.ListN.{getD}
 use lib.Dec.{eqb}
 use Rattle.word.specs.Choice.{pick}
+use Rattle.program.specs.Layout.{row-words}
+use Rattle.program.specs.Layout as layout
 use Rattle.program.specs.Tree.{Monadic, negate, invert, Diadic, plus, minus, times, bit-and, bit-or, bit-xor, right, left, equal, unequal, less, at-most, greater, at-least, Variable, Array}
 use Rattle.program.specs.Core.{Expression, constant, variable, element, monadic, diadic, Process, skip, stop, assign, assign-element, sequence, conditional, loop}
+use Rattle.program.specs.Rows.{monadic-number, diadic-number}
 
 -- ── a value for each row, made from those of the rows before it ──
 module _ {A : Type 0} (d : A) (make : ℕ → (ℕ → A) → A) where
@@ -21,28 +24,28 @@ module _ {A : Type 0} (d : A) (make : ℕ → (ℕ → A) → A) where
 
 -- word f of row r
 abbrev pub word : List ℕ → ℕ → ℕ → ℕ
-word t r f = getD t (4 * r + f) 0
+word t r f = getD t (row-words * r + f) 0
 
 -- "Monadic: 1 `-`, 2 not"
 abbrev pub monadic-of : ℕ → Monadic
-monadic-of o = pick (eqb o 1) negate invert
+monadic-of o = pick (eqb o (monadic-number negate)) negate invert
 
 -- "Diadic from 1: + - * and or xor >> << = <> < <= > >="
 abbrev pub diadic-of : ℕ → Diadic
 diadic-of o =
-    pick (eqb o 1) plus
-    (pick (eqb o 2) minus
-    (pick (eqb o 3) times
-    (pick (eqb o 4) bit-and
-    (pick (eqb o 5) bit-or
-    (pick (eqb o 6) bit-xor
-    (pick (eqb o 7) right
-    (pick (eqb o 8) left
-    (pick (eqb o 9) equal
-    (pick (eqb o 10) unequal
-    (pick (eqb o 11) less
-    (pick (eqb o 12) at-most
-    (pick (eqb o 13) greater at-least))))))))))))
+    pick (eqb o (diadic-number plus)) plus
+    (pick (eqb o (diadic-number minus)) minus
+    (pick (eqb o (diadic-number times)) times
+    (pick (eqb o (diadic-number bit-and)) bit-and
+    (pick (eqb o (diadic-number bit-or)) bit-or
+    (pick (eqb o (diadic-number bit-xor)) bit-xor
+    (pick (eqb o (diadic-number right)) right
+    (pick (eqb o (diadic-number left)) left
+    (pick (eqb o (diadic-number equal)) equal
+    (pick (eqb o (diadic-number unequal)) unequal
+    (pick (eqb o (diadic-number less)) less
+    (pick (eqb o (diadic-number at-most)) at-most
+    (pick (eqb o (diadic-number greater)) greater at-least))))))))))))
 
 -- the declaration in row d
 abbrev pub variable-in : List ℕ → ℕ → Variable
@@ -55,10 +58,10 @@ array-in t d = record { row = d; offset = word t d 1; length = word t d 2 }
 
 abbrev pub expression-of : List ℕ → ℕ → (ℕ → Expression) → Expression
 expression-of t r at =
-    pick (eqb (word t r 0) 3) (constant (word t r 1))
-    (pick (eqb (word t r 0) 4) (variable (variable-in t (word t r 1)))
-    (pick (eqb (word t r 0) 5) (element (array-in t (word t r 1)) (at (word t r 2)))
-    (pick (eqb (word t r 0) 6) (monadic (monadic-of (word t r 1)) (at (word t r 2)))
+    pick (eqb (word t r 0) layout.number) (constant (word t r 1))
+    (pick (eqb (word t r 0) layout.variable) (variable (variable-in t (word t r 1)))
+    (pick (eqb (word t r 0) layout.element) (element (array-in t (word t r 1)) (at (word t r 2)))
+    (pick (eqb (word t r 0) layout.monadic) (monadic (monadic-of (word t r 1)) (at (word t r 2)))
     (diadic (diadic-of (word t r 1)) (at (word t r 2)) (at (word t r 3))))))
 
 unfoldable pub expression-at : List ℕ → ℕ → Expression
@@ -66,12 +69,12 @@ expression-at t = at-row (constant 0) (expression-of t)
 
 abbrev pub process-of : List ℕ → ℕ → (ℕ → Process) → Process
 process-of t r at =
-    pick (eqb (word t r 0) 8) skip
-    (pick (eqb (word t r 0) 9) stop
-    (pick (eqb (word t r 0) 10) (assign (variable-in t (word t r 1)) (expression-at t (word t r 2)))
-    (pick (eqb (word t r 0) 11) (assign-element (array-in t (word t r 1)) (expression-at t (word t r 2)) (expression-at t (word t r 3)))
-    (pick (eqb (word t r 0) 12) (sequence (at (word t r 1)) (at (word t r 2)))
-    (pick (eqb (word t r 0) 13) (conditional (expression-at t (word t r 1)) (at (word t r 2)) (at (word t r 3)))
+    pick (eqb (word t r 0) layout.skip) skip
+    (pick (eqb (word t r 0) layout.stop) stop
+    (pick (eqb (word t r 0) layout.assign) (assign (variable-in t (word t r 1)) (expression-at t (word t r 2)))
+    (pick (eqb (word t r 0) layout.assign-element) (assign-element (array-in t (word t r 1)) (expression-at t (word t r 2)) (expression-at t (word t r 3)))
+    (pick (eqb (word t r 0) layout.sequence) (sequence (at (word t r 1)) (at (word t r 2)))
+    (pick (eqb (word t r 0) layout.if) (conditional (expression-at t (word t r 1)) (at (word t r 2)) (at (word t r 3)))
     (loop (expression-at t (word t r 1)) (at (word t r 2))))))))
 
 unfoldable pub process-at : List ℕ → ℕ → Process

@@ -8,6 +8,7 @@ use Rattle.grammar.specs.Grammar.{Program, program, text-process}
 use Rattle.grammar.specs.Automaton.{Reading, accepted, refused}
 use Rattle.grammar.specs.Rows.{rows, first-row, row-count}
 use Rattle.grammar.specs.Depth.{depth, deepest}
+use Rattle.program.specs.Layout.{row-words}
 use Rattle.reader.specs.declared.Answer as answer-enum
 use Rattle.reader.specs.declared.Answer.the-variants as variant
 
@@ -22,5 +23,5 @@ answer n (refused r) = variant.Refused (n - length r)
 
 -- a program's raw rows stand in the table, and nothing else was written; what a refusal leaves there is open
 abbrev pub Written : Reading → List ℕ → List ℕ → Type 0
-Written (accepted p) t t′ = t′ ≡ sets t (4 * first-row p) (rows p)
+Written (accepted p) t t′ = t′ ≡ sets t (row-words * first-row p) (rows p)
 Written (refused r) t t′ = Unit {0}

@@ -5,7 +5,8 @@ use Prim.Native.Nat.{ℕ, zero, suc, _+_, _-_, _<_, _≤_}
 use native.Mathlib.Omega.{arith}
 use lib.ListN.{length}
 use Rattle.spelling.specs.Kinds as kind
-use Rattle.grammar.specs.Grammar.{Token, mark, Process, after-comment, Constant, literal, named, Specification, var, array, val, commented, Program, program, text-process, text-constant, text-specification}
+use Rattle.grammar.specs.Grammar.{Token, mark, Process, after-comment, Constant, literal, named, Specification, var, array, val, commented, Program, program, text-process, text-constant}
+use Rattle.grammar.specs.Grammar.{text-specification}
 use Rattle.grammar.specs.Automaton.{top, in-comments, in-order, at-front, need-process, have-process, accepted, refused, run, reads}
 use Rattle.grammar.specs.Tokens.{unread}
 use Rattle.grammar.specs.Rows.{declared-rows, count-process, rows-process}
@@ -68,7 +69,8 @@ length-comments zero w = omega arith
 length-comments (suc c) w = let x = length-comments c (mark kind.comment ∷ w) in omega arith
 
 -- where the process starts
-start-of : (b : List Specification) (c : ℕ) (w : List Token) (p : Process) → run w (need-process (in-comments c (top b))) ≡ accepted (program (in-order b []) p) → length (text-process p []) ≡ c + length w
+start-of : (b : List Specification) (c : ℕ) (w : List Token) (p : Process) → run w (need-process (in-comments c (top b))) ≡ accepted (program (in-order b []) p)
+    → length (text-process p []) ≡ c + length w
 start-of b c w p h =
     let e = subst (Says w (need-process (in-comments c (top b)))) h (says w (need-process (in-comments c (top b))) (in-comments-fine c b)) .0 in
     let x : length (before-front b (comments c w)) ≡ length (before-front b (text-process p [])) = ap length (in-comments-text c b w ∙ e ∙ sym (front-text b [] (text-process p []))) in
@@ -82,7 +84,8 @@ reads-run w = refl
 
 module _ (kinds values : List ℕ) where
   -- a refusal
-  pub program-refused : (x : ℕ) (t t′ : List ℕ) → x ≤ length kinds → reads (unread kinds values 0) ≡ refused (unread kinds values x) → (variant.Refused x ≡ answer (length kinds) (reads (unread kinds values 0))) × Written (reads (unread kinds values 0)) t t′
+  pub program-refused : (x : ℕ) (t t′ : List ℕ) → x ≤ length kinds → reads (unread kinds values 0) ≡ refused (unread kinds values x)
+      → (variant.Refused x ≡ answer (length kinds) (reads (unread kinds values 0))) × Written (reads (unread kinds values 0)) t t′
   program-refused x t t′ l h = rw h (ap variant.Refused (let z = length-unread kinds values x in omega arith), tt)
 
   pub program-front : (x : ℕ) (t t′ : List ℕ) → Stops kinds values 0 x → (variant.Refused x ≡ answer (length kinds) (reads (unread kinds values 0))) × Written (reads (unread kinds values 0)) t t′
@@ -90,12 +93,14 @@ module _ (kinds values : List ℕ) where
   program-front x t t′ h = program-refused x t t′ (h .inside) (h .stops [] 0)
 
   module _ (s i n : ℕ) (f : Fronts kinds values 0 0 0 s i n) (t : List ℕ) where
-    pub program-bad : (x : ℕ) (t′ : List ℕ) → Reads process-form kinds values i n t (Bad x) t′ → (variant.Refused x ≡ answer (length kinds) (reads (unread kinds values 0))) × Written (reads (unread kinds values 0)) t t′
+    pub program-bad : (x : ℕ) (t′ : List ℕ) → Reads process-form kinds values i n t (Bad x) t′
+        → (variant.Refused x ≡ answer (length kinds) (reads (unread kinds values 0))) × Written (reads (unread kinds values 0)) t t′
     unfolding reads
     program-bad x t′ h = let a = f .arrives [] 0 refl in program-refused x t t′ (h .0) (a .comes ∙ h .1 (in-comments (a .comments) (top (a .specifications))))
 
     module _ (j m p d : ℕ) (t′ : List ℕ) (h : Reads process-form kinds values i n t (Done j m p d) t′) where
-      comes-to : (a : Arrives kinds values 0 0 s i n [] 0) → reads (unread kinds values 0) ≡ run (unread kinds values j) (have-process (after-comments (a .comments) (h .1 .tree)) (top (a .specifications)))
+      comes-to : (a : Arrives kinds values 0 0 s i n [] 0)
+          → reads (unread kinds values 0) ≡ run (unread kinds values j) (have-process (after-comments (a .comments) (h .1 .tree)) (top (a .specifications)))
       unfolding reads
       comes-to a = a .comes ∙ h .1 .comes (in-comments (a .comments) (top (a .specifications))) ∙ run-in-comments (a .comments) _ (top (a .specifications)) (h .1 .tree)
 

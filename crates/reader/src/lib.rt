@@ -2,10 +2,12 @@
 use expressions::Read;
 use expressions::kind_at;
 use processes::process;
+use spelling::kind;
 ghost use mathlib.Core.Path.{_≡_};
 ghost use Prim.Native.Nat.{ℕ, _+_, _≤_};
 ghost use mathlib.Core.List.{List};
 ghost use lib.ListN.{length, getD};
+ghost use Rattle.spelling.specs.Kinds as token;
 ghost use Rattle.grammar.specs.Automaton.{reads};
 ghost use Rattle.grammar.specs.Nesting.{Bounded};
 ghost use Rattle.grammar.specs.Tokens.{unread};
@@ -35,7 +37,7 @@ fn end(kinds: &[u8], j: usize, d: usize) -> Specified
     requires { ⌜ j ≤ length (now kinds) ⌝ }
     ensures { λ r. ⌜ r ≡ ended (now (kinds .entry)) j d ⌝ }
 {
-    if kind_at(kinds, j) == 10 {
+    if kind_at(kinds, j) == kind::SEMICOLON {
         return Specified::Next(j + 1, d);
     }
     Specified::Bad(j)
@@ -43,10 +45,10 @@ fn end(kinds: &[u8], j: usize, d: usize) -> Specified
 
 // `var n` at token i.
 fn var_at(kinds: &[u8], i: usize) -> Specified
-    requires { ⌜ (length (now kinds) ≤ 1024) × (getD (now kinds) i 0 ≡ 13) ⌝ }
+    requires { ⌜ (length (now kinds) ≤ 1024) × (getD (now kinds) i 0 ≡ token.var) ⌝ }
     ensures { λ r. ⌜ ((values : List ℕ) → «Reads-specification» (now (kinds .entry)) values i r) ⌝ }
 {
-    if kind_at(kinds, i + 1) == 2 {
+    if kind_at(kinds, i + 1) == kind::NAME {
         return end(kinds, i + 2, 1);
     }
     Specified::Bad(i + 1)
@@ -54,23 +56,23 @@ fn var_at(kinds: &[u8], i: usize) -> Specified
 
 // `array n [ c ]` at token i.
 fn array_at(kinds: &[u8], i: usize) -> Specified
-    requires { ⌜ (length (now kinds) ≤ 1024) × (getD (now kinds) i 0 ≡ 14) ⌝ }
+    requires { ⌜ (length (now kinds) ≤ 1024) × (getD (now kinds) i 0 ≡ token.array) ⌝ }
     ensures { λ r. ⌜ ((values : List ℕ) → «Reads-specification» (now (kinds .entry)) values i r) ⌝ }
 {
-    if kind_at(kinds, i + 1) != 2 {
+    if kind_at(kinds, i + 1) != kind::NAME {
         return Specified::Bad(i + 1);
     }
-    if kind_at(kinds, i + 2) != 6 {
+    if kind_at(kinds, i + 2) != kind::OPEN_SUBSCRIPT {
         return Specified::Bad(i + 2);
     }
     let c = kind_at(kinds, i + 3);
-    if c < 1 {
+    if c < kind::NUMBER {
         return Specified::Bad(i + 3);
     }
-    if 2 < c {
+    if kind::NAME < c {
         return Specified::Bad(i + 3);
     }
-    if kind_at(kinds, i + 4) != 7 {
+    if kind_at(kinds, i + 4) != kind::CLOSE_SUBSCRIPT {
         return Specified::Bad(i + 4);
     }
     end(kinds, i + 5, 1)
@@ -78,20 +80,20 @@ fn array_at(kinds: &[u8], i: usize) -> Specified
 
 // `val n = c` at token i.
 fn val_at(kinds: &[u8], i: usize) -> Specified
-    requires { ⌜ (length (now kinds) ≤ 1024) × (getD (now kinds) i 0 ≡ 15) ⌝ }
+    requires { ⌜ (length (now kinds) ≤ 1024) × (getD (now kinds) i 0 ≡ token.val) ⌝ }
     ensures { λ r. ⌜ ((values : List ℕ) → «Reads-specification» (now (kinds .entry)) values i r) ⌝ }
 {
-    if kind_at(kinds, i + 1) != 2 {
+    if kind_at(kinds, i + 1) != kind::NAME {
         return Specified::Bad(i + 1);
     }
-    if kind_at(kinds, i + 2) != 39 {
+    if kind_at(kinds, i + 2) != kind::EQUAL {
         return Specified::Bad(i + 2);
     }
     let c = kind_at(kinds, i + 3);
-    if c < 1 {
+    if c < kind::NUMBER {
         return Specified::Bad(i + 3);
     }
-    if 2 < c {
+    if kind::NAME < c {
         return Specified::Bad(i + 3);
     }
     end(kinds, i + 4, 0)
@@ -99,14 +101,14 @@ fn val_at(kinds: &[u8], i: usize) -> Specified
 
 // A specification at token i, with its `;`.
 fn specification(kinds: &[u8], i: usize) -> Specified
-    requires { ⌜ (length (now kinds) ≤ 1024) × (13 ≤ getD (now kinds) i 0) × (getD (now kinds) i 0 ≤ 15) ⌝ }
+    requires { ⌜ (length (now kinds) ≤ 1024) × (token.var ≤ getD (now kinds) i 0) × (getD (now kinds) i 0 ≤ token.val) ⌝ }
     ensures { λ r. ⌜ ((values : List ℕ) → «Reads-specification» (now (kinds .entry)) values i r) ⌝ }
 {
     let k = kind_at(kinds, i);
-    if k == 13 {
+    if k == kind::VAR {
         return var_at(kinds, i);
     }
-    if k == 14 {
+    if k == kind::ARRAY {
         return array_at(kinds, i);
     }
     val_at(kinds, i)
@@ -122,13 +124,13 @@ fn specifications(kinds: &[u8]) -> Front
     let mut n: usize = 0;
     loop {
         let k = kind_at(kinds, i);
-        if k == 3 {
+        if k == kind::COMMENT {
             i += 1;
         } else {
-            if k < 13 {
+            if k < kind::VAR {
                 return Front::Process(start, i, n);
             }
-            if 15 < k {
+            if kind::VAL < k {
                 return Front::Process(start, i, n);
             }
             match specification(kinds, i) {
@@ -148,7 +150,8 @@ fn specifications(kinds: &[u8]) -> Front
 // Open: the table where the tokens are no program.
 pub fn program(kinds: &[u8], values: &[u32], table: &mut [u32; 4096]) -> Answer
     requires { ⌜ (length (now kinds) ≤ 1024) × (length (now kinds) ≤ length (now values)) × (Bounded (reads (unread (now kinds) (now values) 0))) ⌝ }
-    ensures { λ r. ⌜ (r ≡ answer (length (now (kinds .entry))) (reads (unread (now (kinds .entry)) (now (values .entry)) 0))) × Written (reads (unread (now (kinds .entry)) (now (values .entry)) 0)) (now (table .entry)) (now (table .exit)) ⌝ }
+    ensures { λ r. ⌜ (r ≡ answer (length (now (kinds .entry))) (reads (unread (now (kinds .entry)) (now (values .entry)) 0)))
+        × Written (reads (unread (now (kinds .entry)) (now (values .entry)) 0)) (now (table .entry)) (now (table .exit)) ⌝ }
 {
     let mut pending = [0u16; 1024];
     match specifications(kinds) {

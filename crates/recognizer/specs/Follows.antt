@@ -12,16 +12,24 @@ use Rattle.word.specs.Choice.{pick}
 use Rattle.word.specs.ChoiceLaws.{pick-false, both, either, by-test}
 use Rattle.spelling.specs.Kinds as kind
 use Rattle.grammar.specs.Grammar.{Token, number, name, mark, Process, Expression, Operand, Specification, last, is-monadic, is-diadic, is-associative}
-use Rattle.grammar.specs.Automaton.{ProcessContext, top, in-braces, in-then, in-else, in-body, in-comment, ListContext, opened, also, ExpressionContext, in-assign, in-target, in-assign-element, in-if, in-while, in-brackets, in-subscript, OperandContext, first, under, next, ChainContext, after, link, chain-base, chain-built, list-base, Partial, var-read, array-read, array-named, array-opened, array-sized, val-read, val-named, val-equated, whole, State, at-front, specifying, need-process, brace-opened, target, target-element, have-process, need-expression, need-operand, name-read, have-operand, have-expression, Move, go, none, is, in-comments, goes-on, step-have-process, step-have-expression, step-have-operand, step-operand, step-expression, step-process, step-partial, step, Reading, accepted, refused, final-process, final-expression, final-operand, final}
+use Rattle.grammar.specs.Automaton.{ProcessContext, top, in-braces, in-then, in-else, in-body, in-comment, ListContext, opened, also, ExpressionContext, in-assign, in-target, in-assign-element}
+use Rattle.grammar.specs.Automaton.{in-if, in-while, in-brackets, in-subscript, OperandContext, first, under, next, ChainContext, after, link, chain-base, chain-built, list-base, Partial}
+use Rattle.grammar.specs.Automaton.{var-read, array-read, array-named, array-opened, array-sized, val-read, val-named, val-equated, whole, State, at-front, specifying, need-process, brace-opened}
+use Rattle.grammar.specs.Automaton.{target, target-element, have-process, need-expression, need-operand, name-read, have-operand, have-expression, Move, go, none, is, in-comments, goes-on}
+use Rattle.grammar.specs.Automaton.{step-have-process, step-have-expression, step-have-operand, step-operand, step-expression, step-process, step-partial, step, Reading, accepted, refused}
+use Rattle.grammar.specs.Automaton.{final-process, final-expression, final-operand, final}
 use Rattle.grammar.specs.Tokens.{token-of}
 use Rattle.grammar.specs.Unread.{token-case, at-is}
 use Rattle.recognizer.specs.declared.Frame.{Frame}
 use Rattle.recognizer.specs.declared.Action.{Action}
-use Rattle.recognizer.specs.Pushdown.{frame, braces-open, at, counted, level-process, level-list, level-expression, level-operand, level-chain, operator-before, frames-process, frames-list, frames-expression, frames-operand, frames-chain, mode-partial, configuration, after-process, after-expression, links, after-operand, start-operand, start-expression, start-process, specify, innermost, act, doing, complete}
+use Rattle.recognizer.specs.Modes as mode
+use Rattle.recognizer.specs.Pushdown.{frame, braces-open, at, counted, level-process, level-list, level-expression, level-operand, level-chain, operator-before, frames-process, frames-list}
+use Rattle.recognizer.specs.Pushdown.{frames-expression, frames-operand, frames-chain, mode-partial, configuration, after-process, after-expression, links, after-operand, start-operand}
+use Rattle.recognizer.specs.Pushdown.{start-expression, start-process, specify, innermost, act, doing, complete}
 
 -- an action is the automaton's move, where the stack is s
 abbrev pub Agrees : Move → Action → List Frame → Type 0
-Agrees none a s = a .mode ≡ 19
+Agrees none a s = a .mode ≡ mode.refused
 Agrees (go q) a s = act a s ≡ configuration q
 
 -- the same either way; and with the same test by another name
@@ -49,7 +57,8 @@ chain-frames (link a c) = chain-frames c
 module _ (t : Token) (k : ℕ) (same : (m : ℕ) → 2 < m → is m t ≡ eqb k m) where
   ends-process : (c : ProcessContext) (p : Process) → Agrees (step-have-process c p t) (after-process (innermost (frames-process c)) k) (frames-process c)
   ends-process (top b) p = refl
-  ends-process (in-braces c) p = rw (list-frame c) (either-name _ _ _ _ _ _ _ (same kind.semicolon (omega arith)) (rw (list-frame c, list-level c) refl) (either-name _ _ _ _ _ _ _ (same kind.close-brace (omega arith)) refl refl))
+  ends-process (in-braces c) p = rw (list-frame c)
+      (either-name _ _ _ _ _ _ _ (same kind.semicolon (omega arith)) (rw (list-frame c, list-level c) refl) (either-name _ _ _ _ _ _ _ (same kind.close-brace (omega arith)) refl refl))
   ends-process (in-then e c) p = either-name _ _ _ _ _ _ _ (same kind.else (omega arith)) refl refl
   ends-process (in-else e q c) p = ends-process c _
   ends-process (in-body e c) p = ends-process c _
@@ -99,14 +108,16 @@ module _ (t : Token) (k : ℕ) (same : (m : ℕ) → 2 < m → is m t ≡ eqb k 
 small-not : (n k v : ℕ) → k < n → is n (number v) ≡ eqb k n
 small-not n k v h = sym (ne-eqb k n (omega arith))
 
-ends-first : (c : ExpressionContext) (a : Operand) (i k v : ℕ) → Agrees (step-have-operand (first c) a (token-of i k v)) (after-operand 0 (counted (level-expression c)) (innermost (frames-expression c)) k) (frames-expression c)
+ends-first : (c : ExpressionContext) (a : Operand) (i k v : ℕ)
+    → Agrees (step-have-operand (first c) a (token-of i k v)) (after-operand 0 (counted (level-expression c)) (innermost (frames-expression c)) k) (frames-expression c)
 ends-first c a i k v =
     token-case (λ k t. Agrees (step-have-operand (first c) a t) (after-operand 0 (counted (level-expression c)) (innermost (frames-expression c)) k) (frames-expression c)) i k v
     (ends-expression (number v) 1 (λ m h. small-not m 1 v (omega arith)) c _)
     (ends-expression (name i) 2 (λ m h. small-not m 2 i (omega arith)) c _)
     (λ y z. keep _ (is-diadic k) _ _ _ _ refl (ends-expression (mark k) k (λ m h. refl) c _))
 
-ends-operand : (c : OperandContext) (a : Operand) (i k v : ℕ) → Agrees (step-have-operand c a (token-of i k v)) (after-operand (operator-before c) (counted (level-operand c)) (innermost (frames-operand c)) k) (frames-operand c)
+ends-operand : (c : OperandContext) (a : Operand) (i k v : ℕ)
+    → Agrees (step-have-operand c a (token-of i k v)) (after-operand (operator-before c) (counted (level-operand c)) (innermost (frames-operand c)) k) (frames-operand c)
 ends-operand (first c) a i k v = ends-first c a i k v
 ends-operand (under o c) a i k v = ends-expression (token-of i k v) k (λ m h. at-is m i k v h) c _
 ends-operand (next o c) a i k v = ends-next (token-of i k v) k (λ m h. at-is m i k v h) o c a
@@ -114,27 +125,32 @@ ends-operand (next o c) a i k v = ends-next (token-of i k v) k (λ m h. at-is m 
 starts-operand : (c : OperandContext) (i k v : ℕ) → Agrees (step-operand (token-of i k v) c) (start-operand (operator-before c) (counted (level-operand c)) k) (frames-operand c)
 starts-operand c i k v =
     token-case (λ k t. Agrees (step-operand t c) (start-operand (operator-before c) (counted (level-operand c)) k) (frames-operand c)) i k v refl refl
-    (λ y z. rw (ne-eqb k 1 y, ne-eqb k 2 z) (keep _ (eqb k kind.open-bracket) _ _ _ _ refl refl))
+    (λ y z. rw (ne-eqb k kind.number y, ne-eqb k kind.name z) (keep _ (eqb k kind.open-bracket) _ _ _ _ refl refl))
 
 starts-expression : (c : ExpressionContext) (i k v : ℕ) → Agrees (step-expression (token-of i k v) c) (start-expression (counted (level-expression c)) k) (frames-expression c)
 starts-expression c i k v =
     token-case (λ k t. Agrees (step-expression t c) (start-expression (counted (level-expression c)) k) (frames-expression c)) i k v refl refl
-    (λ y z. rw (ne-eqb k 1 y, ne-eqb k 2 z) (keep _ (is-monadic k) _ _ _ _ refl (keep _ (eqb k kind.open-bracket) _ _ _ _ refl refl)))
+    (λ y z. rw (ne-eqb k kind.number y, ne-eqb k kind.name z) (keep _ (is-monadic k) _ _ _ _ refl (keep _ (eqb k kind.open-bracket) _ _ _ _ refl refl)))
 
 starts-process : (c : ProcessContext) (i k v : ℕ) → Agrees (step-process (token-of i k v) c) (start-process (counted (level-process c)) k) (frames-process c)
 starts-process c i k v =
     token-case (λ k t. Agrees (step-process t c) (start-process (counted (level-process c)) k) (frames-process c)) i k v refl refl
-    (λ y z. rw (ne-eqb k 2 z) (keep _ (eqb k kind.skip) _ _ _ _ refl (keep _ (eqb k kind.stop) _ _ _ _ refl (keep _ (eqb k kind.open-brace) _ _ _ _ refl (keep _ (eqb k kind.if) _ _ _ _ refl (keep _ (eqb k kind.while) _ _ _ _ refl (keep _ (eqb k kind.comment) _ _ _ _ refl refl)))))))
+    (λ y z. rw (ne-eqb k kind.name z)
+    (keep _ (eqb k kind.skip) _ _ _ _ refl (keep _ (eqb k kind.stop) _ _ _ _ refl (keep _ (eqb k kind.open-brace) _ _ _ _ refl
+    (keep _ (eqb k kind.if) _ _ _ _ refl
+    (keep _ (eqb k kind.while) _ _ _ _ refl (keep _ (eqb k kind.comment) _ _ _ _ refl refl)))))))
 
 specifies : (b : List Specification) (n : ℕ) (x : Partial) (i k v : ℕ) → Agrees (step-partial b n x (token-of i k v)) (specify (mode-partial x) k) []
-specifies b n var-read i k v = token-case (λ k t. Agrees (step-partial b n var-read t) (specify 1 k) []) i k v refl refl (λ y z. rw (ne-eqb k 2 z) refl)
-specifies b n array-read i k v = token-case (λ k t. Agrees (step-partial b n array-read t) (specify 2 k) []) i k v refl refl (λ y z. rw (ne-eqb k 2 z) refl)
+specifies b n var-read i k v = token-case (λ k t. Agrees (step-partial b n var-read t) (specify mode.var-read k) []) i k v refl refl (λ y z. rw (ne-eqb k kind.name z) refl)
+specifies b n array-read i k v = token-case (λ k t. Agrees (step-partial b n array-read t) (specify mode.array-read k) []) i k v refl refl (λ y z. rw (ne-eqb k kind.name z) refl)
 specifies b n (array-named x) i k v = either-name _ _ _ _ _ _ _ (at-is kind.open-subscript i k v (omega arith)) refl refl
-specifies b n (array-opened x) i k v = token-case (λ k t. Agrees (step-partial b n (array-opened x) t) (specify 4 k) []) i k v refl refl (λ y z. rw (ne-eqb k 1 y, ne-eqb k 2 z) refl)
+specifies b n (array-opened x) i k v =
+    token-case (λ k t. Agrees (step-partial b n (array-opened x) t) (specify mode.array-opened k) []) i k v refl refl (λ y z. rw (ne-eqb k kind.number y, ne-eqb k kind.name z) refl)
 specifies b n (array-sized x c) i k v = either-name _ _ _ _ _ _ _ (at-is kind.close-subscript i k v (omega arith)) refl refl
-specifies b n val-read i k v = token-case (λ k t. Agrees (step-partial b n val-read t) (specify 6 k) []) i k v refl refl (λ y z. rw (ne-eqb k 2 z) refl)
+specifies b n val-read i k v = token-case (λ k t. Agrees (step-partial b n val-read t) (specify mode.val-read k) []) i k v refl refl (λ y z. rw (ne-eqb k kind.name z) refl)
 specifies b n (val-named x) i k v = either-name _ _ _ _ _ _ _ (at-is kind.equal i k v (omega arith)) refl refl
-specifies b n (val-equated x) i k v = token-case (λ k t. Agrees (step-partial b n (val-equated x) t) (specify 8 k) []) i k v refl refl (λ y z. rw (ne-eqb k 1 y, ne-eqb k 2 z) refl)
+specifies b n (val-equated x) i k v =
+    token-case (λ k t. Agrees (step-partial b n (val-equated x) t) (specify mode.val-equated k) []) i k v refl refl (λ y z. rw (ne-eqb k kind.number y, ne-eqb k kind.name z) refl)
 specifies b n (whole s) i k v = either-name _ _ _ _ _ _ _ (at-is kind.semicolon i k v (omega arith)) refl refl
 
 -- comments before the process stand in no frame

@@ -10,8 +10,14 @@ use borrow.Author.Tests.{ne-eqb, eqb-true, eqb-false, ltb-true, ltb-false}
 use Rattle.word.specs.Choice.{pick}
 use Rattle.word.specs.ChoiceLaws.{by-test}
 use Rattle.spelling.specs.Kinds as kind
-use Rattle.grammar.specs.Grammar.{Token, number, name, mark, Expression, single, monadic, Chain, last, more, Operand, constant, variable, element, bracketed, Process, skip, assign, assign-element, braces, conditional, while, after-comment, Processes, only, followed, Constant, literal, named, Specification, Program, is-monadic, is-diadic}
-use Rattle.grammar.specs.Automaton.{ProcessContext, top, in-braces, in-then, in-else, in-body, in-comment, ListContext, opened, also, ExpressionContext, in-assign, in-target, in-assign-element, in-if, in-while, in-brackets, in-subscript, OperandContext, first, under, next, ChainContext, after, link, chain-base, chain-built, list-base, list-built, in-comments, Partial, var-read, array-read, array-named, array-opened, array-sized, val-read, val-named, val-equated, whole, State, at-front, specifying, need-process, brace-opened, target, target-element, have-process, need-expression, need-operand, name-read, have-operand, have-expression, Move, go, none, is, kind-of, goes-on, step-have-process, step-have-expression, step-have-operand, step-operand, step-expression, step-process, with-name, with-constant, step-partial, step-front, step, Reading, accepted, refused, final-process, final-expression, final-operand, final}
+use Rattle.grammar.specs.Grammar.{Token, number, name, mark, Expression, single, monadic, Chain, last, more, Operand, constant, variable, element, bracketed, Process, skip, assign}
+use Rattle.grammar.specs.Grammar.{assign-element, braces, conditional, while, after-comment, Processes, only, followed, Constant, literal, named, Specification, Program, is-monadic, is-diadic}
+use Rattle.grammar.specs.Automaton.{ProcessContext, top, in-braces, in-then, in-else, in-body, in-comment, ListContext, opened, also, ExpressionContext, in-assign, in-target, in-assign-element}
+use Rattle.grammar.specs.Automaton.{in-if, in-while, in-brackets, in-subscript, OperandContext, first, under, next, ChainContext, after, link, chain-base, chain-built, list-base, list-built}
+use Rattle.grammar.specs.Automaton.{in-comments, Partial, var-read, array-read, array-named, array-opened, array-sized, val-read, val-named, val-equated, whole, State, at-front, specifying}
+use Rattle.grammar.specs.Automaton.{need-process, brace-opened, target, target-element, have-process, need-expression, need-operand, name-read, have-operand, have-expression, Move, go, none, is}
+use Rattle.grammar.specs.Automaton.{kind-of, goes-on, step-have-process, step-have-expression, step-have-operand, step-operand, step-expression, step-process, with-name, with-constant}
+use Rattle.grammar.specs.Automaton.{step-partial, step-front, step, Reading, accepted, refused, final-process, final-expression, final-operand, final}
 use Rattle.grammar.specs.Depth.{depth-process, depth-processes, depth, deepest, depth-limit, too-deep}
 use Rattle.grammar.specs.Nesting.{nesting-process, nesting-processes, nesting-expression, nesting-chain, nesting-operand, within-process, within-processes, nesting}
 use Rattle.grammar.specs.NestingLaws.{nests-within}

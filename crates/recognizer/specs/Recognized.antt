@@ -7,19 +7,22 @@ use native.Mathlib.Omega.{arith}
 use lib.ListN.{length, getD}
 use Rattle.word.specs.Choice.{pick}
 use Rattle.grammar.specs.Grammar.{Token, Program}
-use Rattle.grammar.specs.Automaton.{Partial, var-read, array-read, array-named, array-opened, array-sized, val-read, val-named, val-equated, whole, State, at-front, specifying, need-process, brace-opened, target, target-element, have-process, need-expression, need-operand, name-read, have-operand, have-expression, Move, go, none, step, Reading, accepted, refused, final, onward, run, reads}
+use Rattle.grammar.specs.Automaton.{Partial, var-read, array-read, array-named, array-opened, array-sized, val-read, val-named, val-equated, whole, State, at-front, specifying, need-process}
+use Rattle.grammar.specs.Automaton.{brace-opened, target, target-element, have-process, need-expression, need-operand, name-read, have-operand, have-expression, Move, go, none, step, Reading}
+use Rattle.grammar.specs.Automaton.{accepted, refused, final, onward, run, reads}
 use Rattle.grammar.specs.Tokens.{token-of, unread}
 use Rattle.grammar.specs.Unread.{unread-cons, unread-end, length-unread}
 use Rattle.grammar.specs.Depth.{depth, deepest, depth-limit}
 use Rattle.grammar.specs.Nesting.{Bounded}
 use Rattle.recognizer.specs.declared.Recognized.{Recognized}
 use Rattle.recognizer.specs.declared.Recognized.the-variants as answer
-use Rattle.recognizer.specs.Pushdown.{Configuration, at, configuration, mode-partial, advance, doing, complete, deep-by}
+use Rattle.recognizer.specs.Modes as mode
+use Rattle.recognizer.specs.Pushdown.{Configuration, at, no-operator, configuration, mode-partial, advance, doing, complete, deep-by}
 use Rattle.recognizer.specs.Follows.{Agrees, follows, Ends, finishes}
 use Rattle.recognizer.specs.Levels.{Levels, levels-first, levels-next, levels-nest, levels-deep}
 
 -- no state is refused
-partial-not-refused : (x : Partial) → mode-partial x ≡ 19 → ⊥
+partial-not-refused : (x : Partial) → mode-partial x ≡ mode.refused → ⊥
 partial-not-refused var-read e = omega (arith, e)
 partial-not-refused array-read e = omega (arith, e)
 partial-not-refused (array-named x) e = omega (arith, e)
@@ -30,7 +33,7 @@ partial-not-refused (val-named x) e = omega (arith, e)
 partial-not-refused (val-equated x) e = omega (arith, e)
 partial-not-refused (whole s) e = omega (arith, e)
 
-not-refused : (s : State) → configuration s .mode ≡ 19 → ⊥
+not-refused : (s : State) → configuration s .mode ≡ mode.refused → ⊥
 not-refused (at-front b n) e = omega (arith, e)
 not-refused (specifying b n x) e = partial-not-refused x e
 not-refused (need-process c) e = omega (arith, e)
@@ -61,7 +64,7 @@ module _ (kinds values : List ℕ) where
     pub comes : reads (unread kinds values 0) ≡ run (unread kinds values i) state
     pub levels : Levels deep state
 
-  pub stands-first : Stands 0 (at 0 0 0 []) false
+  pub stands-first : Stands 0 (at mode.front no-operator 0 []) false
   unfolding reads
   stands-first = record { state = at-front [] 0; same = refl; comes = refl; levels = levels-first }
 
@@ -74,16 +77,18 @@ module _ (kinds values : List ℕ) where
 
     after : (m : Move) → step (h .state) t ≡ m → reads (unread kinds values 0) ≡ onward m (unread kinds values i) (run (unread kinds values (i + 1)))
     unfolding run
-    after m q = h .comes ∙ ap (λ (w : List Token). run w (h .state)) (unread-cons kinds values i b) ∙ ap (λ (m : Move). onward m (t ∷ unread kinds values (i + 1)) (run (unread kinds values (i + 1)))) q ∙ ap (λ (w : List Token). onward m w (run (unread kinds values (i + 1)))) (sym (unread-cons kinds values i b))
+    after m q = h .comes ∙ ap (λ (w : List Token). run w (h .state)) (unread-cons kinds values i b)
+        ∙ ap (λ (m : Move). onward m (t ∷ unread kinds values (i + 1)) (run (unread kinds values (i + 1)))) q
+        ∙ ap (λ (w : List Token). onward m w (run (unread kinds values (i + 1)))) (sym (unread-cons kinds values i b))
 
-    pub stands-bad : c′ .mode ≡ 19 → Says (length kinds) (reads (unread kinds values 0)) (answer.Bad i)
+    pub stands-bad : c′ .mode ≡ mode.refused → Says (length kinds) (reads (unread kinds values 0)) (answer.Bad i)
     stands-bad z = by (step (h .state) t) refl onto
       where
         by : (m : Move) → step (h .state) t ≡ m → Agrees m (doing c (getD kinds i 0)) (c .stack) → Says (length kinds) (reads (unread kinds values 0)) (answer.Bad i)
         by none q g = (unread kinds values i, after none q, omega (arith, b, length-unread kinds values i))
         by (go s) q g = absurd (not-refused s (ap (λ (d : Configuration). d .mode) (sym g ∙ sym e) ∙ z))
 
-    pub stands-next : ¬ (c′ .mode ≡ 19) → Stands (i + 1) c′ (deep-by deep (c′ .level))
+    pub stands-next : ¬ (c′ .mode ≡ mode.refused) → Stands (i + 1) c′ (deep-by deep (c′ .level))
     stands-next z = by (step (h .state) t) refl onto
       where
         by : (m : Move) → step (h .state) t ≡ m → Agrees m (doing c (getD kinds i 0)) (c .stack) → Stands (i + 1) c′ (deep-by deep (c′ .level))
@@ -98,7 +103,8 @@ module _ (kinds values : List ℕ) where
 
   pub stands-last : (i : ℕ) (c : Configuration) (deep : Bool) → Stands i c deep → i ≤ length kinds → length kinds ≤ i → Says (length kinds) (reads (unread kinds values 0)) (ended (complete c) deep i)
   unfolding run
-  stands-last i c deep h a b = subst (λ (d : Configuration). Says (length kinds) (reads (unread kinds values 0)) (ended (complete d) deep i)) (h .same) (by (final (h .state)) (complete (configuration (h .state))) refl (finishes (h .state)) deep (h .levels))
+  stands-last i c deep h a b = subst (λ (d : Configuration). Says (length kinds) (reads (unread kinds values 0)) (ended (complete d) deep i)) (h .same)
+      (by (final (h .state)) (complete (configuration (h .state))) refl (finishes (h .state)) deep (h .levels))
     where
       there : reads (unread kinds values 0) ≡ final (h .state)
       there = h .comes ∙ ap (λ (w : List Token). run w (h .state)) (unread-end kinds values i b)

@@ -1,7 +1,12 @@
 // The grammar's automaton without its trees, its stack in the working table: which token no program continues with, and whether the program is too deep, in constant memory.
+pub mod mark;
+pub mod mode;
+
 use expressions::is_diadic;
 use expressions::is_monadic;
 use expressions::put;
+use program::row;
+use spelling::kind;
 ghost use mathlib.Core.Path.{_≡_};
 ghost use Prim.Native.Nat.{ℕ, _+_, _<_, _≤_};
 ghost use mathlib.Core.List.{List};
@@ -11,6 +16,22 @@ ghost use Rattle.grammar.specs.Tokens.{unread};
 ghost use Rattle.recognizer.specs.Pushdown as rules;
 ghost use Rattle.recognizer.specs.Stack.{viewed};
 ghost use Rattle.recognizer.specs.Recognized.{Says, ended};
+
+// How far levels are counted: the limit of depth.
+const LEVELS: u32 = 32;
+
+// The operator before an operand: none, a monadic one, or a chain's, as 2 more than its kind.
+const NO_OPERATOR: u32 = 0;
+
+const AFTER_MONADIC: u32 = 1;
+
+const CHAIN: u32 = 2;
+
+const CHAIN_OF_PLUS: u32 = kind::PLUS as u32 + CHAIN;
+
+const CHAIN_OF_TIMES: u32 = kind::TIMES as u32 + CHAIN;
+
+const CHAIN_OF_XOR: u32 = kind::XOR as u32 + CHAIN;
 
 // What is open, by its mark; the operator before it, and the level outside.
 pub struct Frame {
@@ -43,18 +64,18 @@ pub enum Recognized {
     Bad(usize),
 }
 
-// One level more, up to 32.
+// One level more, up to the limit.
 fn deeper(level: u32) -> u32
     ensures { λ r. ⌜ r ≡ rules.deeper level ⌝ }
 {
-    if level < 32 { level + 1 } else { 32 }
+    if level < LEVELS { level + 1 } else { LEVELS }
 }
 
 fn no_frame() -> Frame
     ensures { λ r. ⌜ r ≡ rules.«no-frame» ⌝ }
 {
     Frame {
-        mark: 0,
+        mark: mark::NOTHING_OPEN,
         operator: 0,
         level: 0,
     }
@@ -108,12 +129,12 @@ fn choose(level: u32) -> Action
     ensures { λ r. ⌜ r ≡ rules.choose level ⌝ }
 {
     Action {
-        mode: 10,
+        mode: mode::NEED_PROCESS,
         operator: 0,
         level: deeper(level),
         pops: true,
         pushed: Frame {
-            mark: 1,
+            mark: mark::THEN_OPEN,
             operator: 0,
             level: level,
         },
@@ -123,7 +144,7 @@ fn choose(level: u32) -> Action
 fn refuse() -> Action
     ensures { λ r. ⌜ r ≡ rules.refuse ⌝ }
 {
-    stay(19, 0, 0)
+    stay(mode::REFUSED, 0, 0)
 }
 
 // If the token is of kind `want`.
@@ -140,14 +161,14 @@ fn expect(k: u8, want: u8, then: Action) -> Action
 fn after_process(f: Frame, k: u8) -> Action
     ensures { λ r. ⌜ r ≡ rules.«after-process» f k ⌝ }
 {
-    if f.mark == 1 {
-        return expect(k, 20, leave(10, 0, deeper(f.level)));
+    if f.mark == mark::THEN_OPEN {
+        return expect(k, kind::ELSE, leave(mode::NEED_PROCESS, 0, deeper(f.level)));
     }
-    if f.mark == 2 {
-        if k == 10 {
-            return stay(10, 0, deeper(f.level));
+    if f.mark == mark::BRACES_OPEN {
+        if k == kind::SEMICOLON {
+            return stay(mode::NEED_PROCESS, 0, deeper(f.level));
         }
-        return expect(k, 9, leave(14, 0, 0));
+        return expect(k, kind::CLOSE_BRACE, leave(mode::HAVE_PROCESS, 0, 0));
     }
     refuse()
 }
@@ -156,34 +177,46 @@ fn after_process(f: Frame, k: u8) -> Action
 fn after_expression(f: Frame, k: u8) -> Action
     ensures { λ r. ⌜ r ≡ rules.«after-expression» f k ⌝ }
 {
-    if f.mark == 3 {
-        return expect(k, 7, leave(13, 0, f.level));
+    if f.mark == mark::TARGET_OPEN {
+        return expect(
+            k,
+            kind::CLOSE_SUBSCRIPT,
+            leave(mode::TARGET_ELEMENT, 0, f.level),
+        );
     }
-    if f.mark == 4 {
-        return expect(k, 19, choose(f.level));
+    if f.mark == mark::IF_OPEN {
+        return expect(k, kind::THEN, choose(f.level));
     }
-    if f.mark == 5 {
-        return expect(k, 22, leave(10, 0, deeper(f.level)));
+    if f.mark == mark::WHILE_OPEN {
+        return expect(k, kind::DO, leave(mode::NEED_PROCESS, 0, deeper(f.level)));
     }
-    if f.mark == 6 {
-        return expect(k, 5, leave(18, f.operator, f.level));
+    if f.mark == mark::BRACKETS_OPEN {
+        return expect(
+            k,
+            kind::CLOSE_BRACKET,
+            leave(mode::HAVE_OPERAND, f.operator, f.level),
+        );
     }
-    if f.mark == 7 {
-        return expect(k, 7, leave(18, f.operator, f.level));
+    if f.mark == mark::SUBSCRIPT_OPEN {
+        return expect(
+            k,
+            kind::CLOSE_SUBSCRIPT,
+            leave(mode::HAVE_OPERAND, f.operator, f.level),
+        );
     }
     after_process(f, k)
 }
 
-// The chain whose operator is 2 less than o goes on with a token of kind k.
+// The chain that o stands for goes on with a token of kind k.
 fn links(o: u32, k: u8) -> bool
     ensures { λ r. ⌜ r ≡ rules.links o k ⌝ }
 {
-    if o == 33 {
-        return k == 31;
+    if o == CHAIN_OF_PLUS {
+        return k == kind::PLUS;
     }
-    if 35 <= o {
-        if o <= 38 {
-            return k as u32 == o - 2;
+    if CHAIN_OF_TIMES <= o {
+        if o <= CHAIN_OF_XOR {
+            return k as u32 == o - CHAIN;
         }
     }
     false
@@ -193,14 +226,14 @@ fn links(o: u32, k: u8) -> bool
 fn after_operand(o: u32, level: u32, f: Frame, k: u8) -> Action
     ensures { λ r. ⌜ r ≡ rules.«after-operand» o level f k ⌝ }
 {
-    if o == 0 {
+    if o == NO_OPERATOR {
         if is_diadic(k) {
-            return stay(16, k as u32 + 2, deeper(level));
+            return stay(mode::NEED_OPERAND, k as u32 + CHAIN, deeper(level));
         }
         return after_expression(f, k);
     }
     if links(o, k) {
-        return stay(16, o, deeper(level));
+        return stay(mode::NEED_OPERAND, o, deeper(level));
     }
     after_expression(f, k)
 }
@@ -208,104 +241,126 @@ fn after_operand(o: u32, level: u32, f: Frame, k: u8) -> Action
 fn start_operand(o: u32, level: u32, k: u8) -> Action
     ensures { λ r. ⌜ r ≡ rules.«start-operand» o level k ⌝ }
 {
-    if k == 1 {
-        return stay(18, o, level);
+    if k == kind::NUMBER {
+        return stay(mode::HAVE_OPERAND, o, level);
     }
-    if k == 2 {
-        return stay(17, o, level);
+    if k == kind::NAME {
+        return stay(mode::NAME_READ, o, level);
     }
-    expect(k, 4, enter(15, deeper(level), 6, o, level))
+    expect(
+        k,
+        kind::OPEN_BRACKET,
+        enter(
+            mode::NEED_EXPRESSION,
+            deeper(level),
+            mark::BRACKETS_OPEN,
+            o,
+            level,
+        ),
+    )
 }
 
 fn start_expression(level: u32, k: u8) -> Action
     ensures { λ r. ⌜ r ≡ rules.«start-expression» level k ⌝ }
 {
     if is_monadic(k) {
-        return stay(16, 1, deeper(level));
+        return stay(mode::NEED_OPERAND, AFTER_MONADIC, deeper(level));
     }
-    start_operand(0, level, k)
+    start_operand(NO_OPERATOR, level, k)
 }
 
 fn start_process(level: u32, k: u8) -> Action
     ensures { λ r. ⌜ r ≡ rules.«start-process» level k ⌝ }
 {
-    if k == 2 {
-        return stay(12, 0, level);
+    if k == kind::NAME {
+        return stay(mode::TARGET, 0, level);
     }
-    if k == 16 {
-        return stay(14, 0, 0);
+    if k == kind::SKIP {
+        return stay(mode::HAVE_PROCESS, 0, 0);
     }
-    if k == 17 {
-        return stay(14, 0, 0);
+    if k == kind::STOP {
+        return stay(mode::HAVE_PROCESS, 0, 0);
     }
-    if k == 8 {
-        return enter(11, level, 2, 0, level);
+    if k == kind::OPEN_BRACE {
+        return enter(
+            mode::BRACE_OPENED,
+            level,
+            mark::BRACES_OPEN,
+            NO_OPERATOR,
+            level,
+        );
     }
-    if k == 18 {
-        return enter(15, 0, 4, 0, level);
+    if k == kind::IF {
+        return enter(mode::NEED_EXPRESSION, 0, mark::IF_OPEN, NO_OPERATOR, level);
     }
-    if k == 21 {
-        return enter(15, 0, 5, 0, level);
+    if k == kind::WHILE {
+        return enter(
+            mode::NEED_EXPRESSION,
+            0,
+            mark::WHILE_OPEN,
+            NO_OPERATOR,
+            level,
+        );
     }
-    expect(k, 3, stay(10, 0, level))
+    expect(k, kind::COMMENT, stay(mode::NEED_PROCESS, 0, level))
 }
 
 // A constant of a specification: a number or a name.
 fn expect_constant(k: u8, mode: u8) -> Action
     ensures { λ r. ⌜ r ≡ rules.«expect-constant» k mode ⌝ }
 {
-    if k == 1 {
+    if k == kind::NUMBER {
         return stay(mode, 0, 0);
     }
-    expect(k, 2, stay(mode, 0, 0))
+    expect(k, kind::NAME, stay(mode, 0, 0))
 }
 
 // Within a specification.
 fn specify(mode: u8, k: u8) -> Action
     ensures { λ r. ⌜ r ≡ rules.specify mode k ⌝ }
 {
-    if mode == 1 {
-        return expect(k, 2, stay(9, 0, 0));
+    if mode == mode::VAR_READ {
+        return expect(k, kind::NAME, stay(mode::SPECIFIED, 0, 0));
     }
-    if mode == 2 {
-        return expect(k, 2, stay(3, 0, 0));
+    if mode == mode::ARRAY_READ {
+        return expect(k, kind::NAME, stay(mode::ARRAY_NAMED, 0, 0));
     }
-    if mode == 3 {
-        return expect(k, 6, stay(4, 0, 0));
+    if mode == mode::ARRAY_NAMED {
+        return expect(k, kind::OPEN_SUBSCRIPT, stay(mode::ARRAY_OPENED, 0, 0));
     }
-    if mode == 4 {
-        return expect_constant(k, 5);
+    if mode == mode::ARRAY_OPENED {
+        return expect_constant(k, mode::ARRAY_SIZED);
     }
-    if mode == 5 {
-        return expect(k, 7, stay(9, 0, 0));
+    if mode == mode::ARRAY_SIZED {
+        return expect(k, kind::CLOSE_SUBSCRIPT, stay(mode::SPECIFIED, 0, 0));
     }
-    if mode == 6 {
-        return expect(k, 2, stay(7, 0, 0));
+    if mode == mode::VAL_READ {
+        return expect(k, kind::NAME, stay(mode::VAL_NAMED, 0, 0));
     }
-    if mode == 7 {
-        return expect(k, 39, stay(8, 0, 0));
+    if mode == mode::VAL_NAMED {
+        return expect(k, kind::EQUAL, stay(mode::VAL_EQUATED, 0, 0));
     }
-    if mode == 8 {
-        return expect_constant(k, 9);
+    if mode == mode::VAL_EQUATED {
+        return expect_constant(k, mode::SPECIFIED);
     }
-    expect(k, 10, stay(0, 0, 0))
+    expect(k, kind::SEMICOLON, stay(mode::FRONT, 0, 0))
 }
 
 // At the front: a comment, a specification or the process.
 fn start_program(k: u8) -> Action
     ensures { λ r. ⌜ r ≡ rules.«start-program» k ⌝ }
 {
-    if k == 3 {
-        return stay(0, 0, 0);
+    if k == kind::COMMENT {
+        return stay(mode::FRONT, 0, 0);
     }
-    if k == 13 {
-        return stay(1, 0, 0);
+    if k == kind::VAR {
+        return stay(mode::VAR_READ, 0, 0);
     }
-    if k == 14 {
-        return stay(2, 0, 0);
+    if k == kind::ARRAY {
+        return stay(mode::ARRAY_READ, 0, 0);
     }
-    if k == 15 {
-        return stay(6, 0, 0);
+    if k == kind::VAL {
+        return stay(mode::VAL_READ, 0, 0);
     }
     start_process(0, k)
 }
@@ -314,30 +369,40 @@ fn start_program(k: u8) -> Action
 fn after_target(level: u32, k: u8) -> Action
     ensures { λ r. ⌜ r ≡ rules.«after-target» level k ⌝ }
 {
-    if k == 12 {
-        return stay(15, 0, 0);
+    if k == kind::BECOMES {
+        return stay(mode::NEED_EXPRESSION, 0, 0);
     }
-    expect(k, 6, enter(15, 1, 3, 0, level))
+    expect(
+        k,
+        kind::OPEN_SUBSCRIPT,
+        enter(
+            mode::NEED_EXPRESSION,
+            1,
+            mark::TARGET_OPEN,
+            NO_OPERATOR,
+            level,
+        ),
+    )
 }
 
 // The modes of a process.
 fn in_process(mode: u8, level: u32, f: Frame, k: u8) -> Action
     ensures { λ r. ⌜ r ≡ rules.«in-process» mode level f k ⌝ }
 {
-    if mode == 10 {
+    if mode == mode::NEED_PROCESS {
         return start_process(level, k);
     }
-    if mode == 11 {
-        if k == 9 {
-            return leave(14, 0, 0);
+    if mode == mode::BRACE_OPENED {
+        if k == kind::CLOSE_BRACE {
+            return leave(mode::HAVE_PROCESS, 0, 0);
         }
         return start_process(deeper(level), k);
     }
-    if mode == 12 {
+    if mode == mode::TARGET {
         return after_target(level, k);
     }
-    if mode == 13 {
-        return expect(k, 12, stay(15, 0, 0));
+    if mode == mode::TARGET_ELEMENT {
+        return expect(k, kind::BECOMES, stay(mode::NEED_EXPRESSION, 0, 0));
     }
     after_process(f, k)
 }
@@ -346,8 +411,14 @@ fn in_process(mode: u8, level: u32, f: Frame, k: u8) -> Action
 fn after_name(o: u32, level: u32, f: Frame, k: u8) -> Action
     ensures { λ r. ⌜ r ≡ rules.«after-name» o level f k ⌝ }
 {
-    if k == 6 {
-        return enter(15, deeper(level), 7, o, level);
+    if k == kind::OPEN_SUBSCRIPT {
+        return enter(
+            mode::NEED_EXPRESSION,
+            deeper(level),
+            mark::SUBSCRIPT_OPEN,
+            o,
+            level,
+        );
     }
     after_operand(o, level, f, k)
 }
@@ -356,13 +427,13 @@ fn after_name(o: u32, level: u32, f: Frame, k: u8) -> Action
 fn in_expression(mode: u8, o: u32, level: u32, f: Frame, k: u8) -> Action
     ensures { λ r. ⌜ r ≡ rules.«in-expression» mode o level f k ⌝ }
 {
-    if mode == 15 {
+    if mode == mode::NEED_EXPRESSION {
         return start_expression(level, k);
     }
-    if mode == 16 {
+    if mode == mode::NEED_OPERAND {
         return start_operand(o, level, k);
     }
-    if mode == 17 {
+    if mode == mode::NAME_READ {
         return after_name(o, level, f, k);
     }
     after_operand(o, level, f, k)
@@ -372,13 +443,13 @@ fn in_expression(mode: u8, o: u32, level: u32, f: Frame, k: u8) -> Action
 fn decide(mode: u8, o: u32, level: u32, f: Frame, k: u8) -> Action
     ensures { λ r. ⌜ r ≡ rules.decide mode o level f k ⌝ }
 {
-    if mode == 0 {
+    if mode == mode::FRONT {
         return start_program(k);
     }
-    if mode < 10 {
+    if mode < mode::NEED_PROCESS {
         return specify(mode, k);
     }
-    if mode < 15 {
+    if mode < mode::NEED_EXPRESSION {
         return in_process(mode, level, f, k);
     }
     in_expression(mode, o, level, f, k)
@@ -394,9 +465,9 @@ fn innermost(table: &[u32; 4096], height: usize) -> Frame
     }
     let n = height - 1;
     Frame {
-        mark: table[4 * n],
-        operator: table[4 * n + 1],
-        level: table[4 * n + 2],
+        mark: table[row::WORDS * n],
+        operator: table[row::WORDS * n + 1],
+        level: table[row::WORDS * n + 2],
     }
 }
 
@@ -419,7 +490,7 @@ fn apply(table: &mut [u32; 4096], height: usize, a: Action) -> Control
     ensures { λ r. ⌜ (viewed (now (table .exit)) r ≡ rules.act a (rules.frames (now (table .entry)) height)) × (r .height ≤ height + 1) × (length (now (table .exit)) ≡ 4096) ⌝ }
 {
     let h = popped(height, a.pops);
-    if a.pushed.mark == 0 {
+    if a.pushed.mark == mark::NOTHING_OPEN {
         return Control {
             mode: a.mode,
             operator: a.operator,
@@ -454,11 +525,11 @@ fn advance(table: &mut [u32; 4096], c: Control, k: u8) -> Control
     apply(table, height, a)
 }
 
-// Whether level 32 was reached.
+// Whether the limit was reached.
 fn deep_by(deep: bool, level: u32) -> bool
     ensures { λ r. ⌜ r ≡ rules.«deep-by» deep level ⌝ }
 {
-    if level == 32 {
+    if level == LEVELS {
         return true;
     }
     deep
@@ -469,10 +540,10 @@ fn complete(mode: u8, height: usize) -> bool
     ensures { λ r. ⌜ r ≡ rules.«ends-at» mode height ⌝ }
 {
     if height == 0 {
-        if mode == 14 {
+        if mode == mode::HAVE_PROCESS {
             return true;
         }
-        return 16 < mode;
+        return mode::NEED_OPERAND < mode;
     }
     false
 }
@@ -497,7 +568,7 @@ pub fn recognize(kinds: &[u8], table: &mut [u32; 4096]) -> Recognized
     ensures { λ r. ⌜ ((values : List ℕ) → Says (length (now (kinds .entry))) (reads (unread (now (kinds .entry)) values 0)) r) × (length (now (table .exit)) ≡ 4096) ⌝ }
 {
     let mut c = Control {
-        mode: 0,
+        mode: mode::FRONT,
         operator: 0,
         level: 0,
         height: 0,
@@ -506,7 +577,7 @@ pub fn recognize(kinds: &[u8], table: &mut [u32; 4096]) -> Recognized
     let mut i = 0;
     while i < kinds.len() {
         c = advance(table, c, kinds[i]);
-        if c.mode == 19 {
+        if c.mode == mode::REFUSED {
             return Recognized::Bad(i);
         }
         deep = deep_by(deep, c.level);

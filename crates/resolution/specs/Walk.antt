@@ -9,15 +9,19 @@ use lib.Seq.{sets, getD-set-other}
 use lib.Dec.{eqb}
 use borrow.Author.Tests.{eq-eqb, ne-eqb, lt-ltb, le-ltb, le-leb, lt-leb}
 use Rattle.word.specs.Choice.{pick}
+use Rattle.token.specs.Refusals as refusal
 use Rattle.grammar.specs.RowLaws.{sets-rows}
+use Rattle.program.specs.Layout.{row-words}
+use Rattle.program.specs.Layout as layout
 use Rattle.program.specs.Rows.{row}
 use Rattle.program.specs.Table.{word}
 use Rattle.program.specs.ReadBack.{Holds}
 use Rattle.names.specs.Scope.{Meaning, unknown, variable, array, constant, Entry, Scope, lookup, word-of, meaning-of}
 use Rattle.names.specs.Complaints.{as-value, as-target, as-array, at, Verdict, fine, refused, least}
 use Rattle.names.specs.RowComplaints.{lesser-of, lesser-of-comm, lesser-of-assoc, least-append, numbers-of, row-complaints}
+use Rattle.name_table.specs.Sorts as name-sort
 use Rattle.names.specs.ResolvedRows.{declared-row, value-row, names-one, resolve-rows}
-use Rattle.name_table.specs.View.{text-at, place-at}
+use Rattle.name_table.specs.View.{bare, text-at, place-at}
 use Rattle.resolution.specs.declared.Found.{Found}
 
 -- a number at a place, 0 for none
@@ -34,29 +38,30 @@ scope-of es = record { entries = es; rows = 0; names = 0; words = 0 }
 
 -- a row whose name stands for m
 abbrev pub row-by : ℕ → Meaning → ℕ → ℕ → ℕ → List ℕ
-row-by k m a b c = pick (eqb k 4) (value-row m) (row k (pick (names-one k) (declared-row m) a) b c)
+row-by k m a b c = pick (eqb k layout.variable) (value-row m) (row k (pick (names-one k) (declared-row m) a) b c)
 
 -- what a name stands for, by sort
 abbrev pub sort-of : Meaning → ℕ
-sort-of unknown = 0
-sort-of (variable v) = 1
-sort-of (array a) = 2
-sort-of (constant w) = 3
+sort-of unknown = name-sort.undeclared
+sort-of (variable v) = name-sort.var
+sort-of (array a) = name-sort.array
+sort-of (constant w) = name-sort.val
 
 -- 8, or 10 for a sort that is wrong, or that is not the right one
 unfoldable pub unless : ℕ → ℕ → ℕ
-unless sort wrong = pick (eqb sort 0) 8 (pick (eqb sort wrong) 10 0)
+unless sort wrong = pick (eqb sort name-sort.undeclared) refusal.not-declared (pick (eqb sort wrong) refusal.wrong-kind 0)
 
 unfoldable pub only : ℕ → ℕ → ℕ
-only sort right = pick (eqb sort 0) 8 (pick (eqb sort right) 0 10)
+only sort right = pick (eqb sort name-sort.undeclared) refusal.not-declared (pick (eqb sort right) 0 refusal.wrong-kind)
 
 -- by the row's kind: a value, a target, an array
 unfoldable pub complaint : ℕ → ℕ → ℕ
-complaint k sort = pick (eqb k 4) (unless sort 2) (pick (eqb k 10) (only sort 1) (pick (eqb k 5) (only sort 2) (pick (eqb k 11) (only sort 2) 0)))
+complaint k sort = pick (eqb k layout.variable) (unless sort name-sort.array)
+    (pick (eqb k layout.assign) (only sort name-sort.var) (pick (eqb k layout.element) (only sort name-sort.array) (pick (eqb k layout.assign-element) (only sort name-sort.array) 0)))
 
 -- row r of a table, its name standing for m
 abbrev pub resolved-by : Meaning → List ℕ → ℕ → List ℕ
-resolved-by m t r = sets t (4 * r) (row-by (word t r 0) m (word t r 1) (word t r 2) (word t r 3))
+resolved-by m t r = sets t (row-words * r) (row-by (word t r 0) m (word t r 1) (word t r 2) (word t r 3))
 
 pub record Walked : Type 0 where
   pub table : List ℕ
@@ -105,33 +110,46 @@ module _ (n p m q : ℕ) where
   lesser-greater e f h k = rw (ne-eqb n 0 e, ne-eqb m 0 f, le-ltb p q (omega arith), eq-eqb p q h, lt-leb n m k)
 
 -- ── laws: a row by its kind and what its name stands for ──
-pub word-zero : (t : List ℕ) (r : ℕ) → word t r 0 ≡ getD t (4 * r) 0
+pub word-zero : (t : List ℕ) (r : ℕ) → word t r 0 ≡ getD t (row-words * r) 0
 word-zero t r = ap (λ (i : ℕ). getD t i 0) (omega arith)
 
 module _ (k : ℕ) (m : Meaning) (a b c : ℕ) where
-  pub row-constant : k ≡ 4 → sort-of m ≡ 3 → row 3 (word-of m) 0 0 ≡ row-by k m a b c
-  row-constant e f = rw (eq-eqb k 4 e) (by m f)
+  pub row-constant : k ≡ layout.variable → sort-of m ≡ name-sort.val → row layout.number (word-of m) 0 0 ≡ row-by k m a b c
+  row-constant e f = rw (eq-eqb k layout.variable e) (by m f)
     where
-      by : (m : Meaning) → sort-of m ≡ 3 → row 3 (word-of m) 0 0 ≡ value-row m
+      by : (m : Meaning) → sort-of m ≡ name-sort.val → row layout.number (word-of m) 0 0 ≡ value-row m
       by unknown f = absurd (omega arith)
       by (variable v) f = absurd (omega arith)
       by (array v) f = absurd (omega arith)
       by (constant w) f = refl
 
-  pub row-value : k ≡ 4 → ¬ (sort-of m ≡ 3) → row 4 (declared-row m) 0 0 ≡ row-by k m a b c
-  row-value e f = rw (eq-eqb k 4 e) (by m f)
+  pub row-value : k ≡ layout.variable → ¬ (sort-of m ≡ name-sort.val) → row layout.variable (declared-row m) 0 0 ≡ row-by k m a b c
+  row-value e f = rw (eq-eqb k layout.variable e) (by m f)
     where
-      by : (m : Meaning) → ¬ (sort-of m ≡ 3) → row 4 (declared-row m) 0 0 ≡ value-row m
+      by : (m : Meaning) → ¬ (sort-of m ≡ name-sort.val) → row layout.variable (declared-row m) 0 0 ≡ value-row m
       by unknown f = refl
       by (variable v) f = refl
       by (array v) f = refl
       by (constant w) f = absurd (f refl)
 
-  pub row-named : ¬ (k ≡ 4) → names-one k ≡ true → row k (declared-row m) b c ≡ row-by k m a b c
-  row-named e f = rw (ne-eqb k 4 e, f)
+  pub row-named : ¬ (k ≡ layout.variable) → names-one k ≡ true → row k (declared-row m) b c ≡ row-by k m a b c
+  row-named e f = rw (ne-eqb k layout.variable e, f)
 
-  pub row-plain : ¬ (k ≡ 4) → names-one k ≡ false → row k a b c ≡ row-by k m a b c
-  row-plain e f = rw (ne-eqb k 4 e, f)
+  pub row-plain : ¬ (k ≡ layout.variable) → names-one k ≡ false → row k a b c ≡ row-by k m a b c
+  row-plain e f = rw (ne-eqb k layout.variable e, f)
+
+-- offset and length matter to neither
+pub row-bare : (k : ℕ) (m : Meaning) (a b c : ℕ) → row-by k (bare m) a b c ≡ row-by k m a b c
+row-bare k unknown a b c = refl
+row-bare k (variable v) a b c = refl
+row-bare k (array v) a b c = refl
+row-bare k (constant w) a b c = refl
+
+pub sort-bare : (m : Meaning) → sort-of (bare m) ≡ sort-of m
+sort-bare unknown = refl
+sort-bare (variable v) = refl
+sort-bare (array v) = refl
+sort-bare (constant w) = refl
 
 -- ── laws: a turn of the loop, and its end ──
 module _ (source places lengths : List ℕ) (es : List Entry) where
@@ -139,14 +157,17 @@ module _ (source places lengths : List ℕ) (es : List Entry) where
   walk-of = walk (text-at source places lengths) (place-at places) (scope-of es)
 
   pub walk-turn : (t t′ : List ℕ) (r end : ℕ) (v v′ : Verdict) (k a b c p n : ℕ) (m : Meaning) → r < end
-      → k ≡ getD t (4 * r) 0 → a ≡ getD t (4 * r + 1) 0 → b ≡ getD t (4 * r + 2) 0 → c ≡ getD t (4 * r + 3) 0
-      → p ≡ getD places a 0 → n ≡ getD lengths a 0 → m ≡ lookup es (take n (drop p source))
-      → t′ ≡ sets t (4 * r) (row-by k m a b c) → v′ ≡ lesser-of v (judged-by (complaint k (sort-of m)) p)
+      → k ≡ getD t (row-words * r) 0 → a ≡ getD t (row-words * r + 1) 0 → b ≡ getD t (row-words * r + 2) 0 → c ≡ getD t (row-words * r + 3) 0
+      → p ≡ getD places a 0 → n ≡ getD lengths a 0 → m ≡ bare (lookup es (take n (drop p source)))
+      → t′ ≡ sets t (row-words * r) (row-by k m a b c) → v′ ≡ lesser-of v (judged-by (complaint k (sort-of m)) p)
       → walk-of (end - r) t r v ≡ walk-of (end - (r + 1)) t′ (r + 1) v′
   unfolding walk
   walk-turn t t′ r end v v′ k a b c p n m l ek ea eb ec ep en em et ev =
       let z : end - r ≡ suc (end - (r + 1)) = omega arith in
-      rw (z, et, ev, em, en, ep, ec, eb, ea, ek, ← word-zero t r)
+      let x = lookup es (take n (drop p source)) in
+      let et′ : t′ ≡ sets t (row-words * r) (row-by k x a b c) = et ∙ ap (sets t (row-words * r)) (ap (λ (y : Meaning). row-by k y a b c) em ∙ row-bare k x a b c) in
+      let ev′ : v′ ≡ lesser-of v (judged-by (complaint k (sort-of x)) p) = ev ∙ ap (λ (y : ℕ). lesser-of v (judged-by (complaint k y) p)) (ap sort-of em ∙ sort-bare x) in
+      rw (z, et′, ev′, en, ep, ec, eb, ea, ek, ← word-zero t r)
 
   pub walk-end : (t : List ℕ) (r end : ℕ) (v : Verdict) → end ≤ r → walk-of (end - r) t r v ≡ walked t v
   unfolding walk
@@ -162,7 +183,7 @@ getD-sets-past [] l i j h = refl
 getD-sets-past (v ∷ vs) l i j h = getD-sets-past vs (set l i v) (suc i) j (omega arith) ∙ getD-set-past l i j v (omega arith)
 
 length-row-by : (k : ℕ) (m : Meaning) (a b c : ℕ) → length (row-by k m a b c) ≡ 4
-length-row-by k m a b c = by (eqb k 4) m
+length-row-by k m a b c = by (eqb k layout.variable) m
   where
     by : (x : Bool) (m : Meaning) → length (pick x (value-row m) (row k (pick (names-one k) (declared-row m) a) b c)) ≡ 4
     by true unknown = refl
@@ -172,21 +193,21 @@ length-row-by k m a b c = by (eqb k 4) m
     by false m = refl
 
 module _ (text : ℕ → List ℕ) (place : ℕ → ℕ) where
-  value-verdict : (n : ℕ) (m : Meaning) → judged-by (unless (sort-of m) 2) (place n) ≡ least (at text place n (as-value m))
+  value-verdict : (n : ℕ) (m : Meaning) → judged-by (unless (sort-of m) name-sort.array) (place n) ≡ least (at text place n (as-value m))
   unfolding unless least
   value-verdict n unknown = refl
   value-verdict n (variable v) = refl
   value-verdict n (array a) = refl
   value-verdict n (constant w) = refl
 
-  target-verdict : (n : ℕ) (m : Meaning) → judged-by (only (sort-of m) 1) (place n) ≡ least (at text place n (as-target m))
+  target-verdict : (n : ℕ) (m : Meaning) → judged-by (only (sort-of m) name-sort.var) (place n) ≡ least (at text place n (as-target m))
   unfolding only least
   target-verdict n unknown = refl
   target-verdict n (variable v) = refl
   target-verdict n (array a) = refl
   target-verdict n (constant w) = refl
 
-  array-verdict : (n : ℕ) (m : Meaning) → judged-by (only (sort-of m) 2) (place n) ≡ least (at text place n (as-array m))
+  array-verdict : (n : ℕ) (m : Meaning) → judged-by (only (sort-of m) name-sort.array) (place n) ≡ least (at text place n (as-array m))
   unfolding only least
   array-verdict n unknown = refl
   array-verdict n (variable v) = refl
@@ -195,10 +216,12 @@ module _ (text : ℕ → List ℕ) (place : ℕ → ℕ) where
 
   row-verdict : (k n : ℕ) (m : Meaning) → judged-by (complaint k (sort-of m)) (place n) ≡ least (at text place n (numbers-of k m))
   unfolding complaint least
-  row-verdict k n m = by (eqb k 4) (eqb k 10) (eqb k 5) (eqb k 11)
+  row-verdict k n m = by (eqb k layout.variable) (eqb k layout.assign) (eqb k layout.element) (eqb k layout.assign-element)
     where
       by : (w x y z : Bool)
-          → judged-by (pick w (unless (sort-of m) 2) (pick x (only (sort-of m) 1) (pick y (only (sort-of m) 2) (pick z (only (sort-of m) 2) 0)))) (place n)
+          → judged-by
+          (pick w (unless (sort-of m) name-sort.array) (pick x (only (sort-of m) name-sort.var) (pick y (only (sort-of m) name-sort.array) (pick z (only (sort-of m) name-sort.array) 0))))
+          (place n)
           ≡ least (at text place n (pick w (as-value m) (pick x (as-target m) (pick y (as-array m) (pick z (as-array m) [])))))
       by true x y z = value-verdict n m
       by false true y z = target-verdict n m
@@ -207,16 +230,16 @@ module _ (text : ℕ → List ℕ) (place : ℕ → ℕ) where
       by false false false false = refl
 
   module _ (s : Scope) where
-    holds-after : (t : List ℕ) (r k a b c : ℕ) (m : Meaning) (xs : List ℕ) → Holds t r (k ∷ a ∷ b ∷ c ∷ xs) → Holds (sets t (4 * r) (row-by k m a b c)) (r + 1) xs
+    holds-after : (t : List ℕ) (r k a b c : ℕ) (m : Meaning) (xs : List ℕ) → Holds t r (k ∷ a ∷ b ∷ c ∷ xs) → Holds (sets t (row-words * r) (row-by k m a b c)) (r + 1) xs
     holds-after t r k a b c m xs h = record {
       at = λ j l.
           let z = length-row-by k m a b c in
-          let e : 4 * (r + 1) + j ≡ 4 * r + suc (suc (suc (suc j))) = omega arith in
-          getD-sets-past (row-by k m a b c) t (4 * r) (4 * (r + 1) + j) (omega arith) ∙ ap (λ (i : ℕ). getD t i 0) e ∙ h .at (suc (suc (suc (suc j)))) (omega arith);
+          let e : row-words * (r + 1) + j ≡ row-words * r + suc (suc (suc (suc j))) = omega arith in
+          getD-sets-past (row-by k m a b c) t (row-words * r) (row-words * (r + 1) + j) (omega arith) ∙ ap (λ (i : ℕ). getD t i 0) e ∙ h .at (suc (suc (suc (suc j)))) (omega arith);
     }
 
-    pub walk-rows : (n r : ℕ) (t xs : List ℕ) (v : Verdict) → length xs ≡ 4 * n → Holds t r xs
-        → walk text place s n t r v ≡ walked (sets t (4 * r) (resolve-rows text s xs)) (lesser-of v (least (row-complaints text place s xs)))
+    pub walk-rows : (n r : ℕ) (t xs : List ℕ) (v : Verdict) → length xs ≡ row-words * n → Holds t r xs
+        → walk text place s n t r v ≡ walked (sets t (row-words * r) (resolve-rows text s xs)) (lesser-of v (least (row-complaints text place s xs)))
     unfolding walk resolve-rows row-complaints least
     walk-rows zero r t [] v l h = ap (walked t) (sym (lesser-of-comm v fine))
     walk-rows zero r t (x ∷ xs) v l h = absurd (omega arith)
@@ -229,6 +252,6 @@ module _ (text : ℕ → List ℕ) (place : ℕ → ℕ) where
         let p = at text place a (numbers-of k m) in
         let q = row-complaints text place s xs in
         rw (h .at 0 (omega arith), h .at 1 (omega arith), h .at 2 (omega arith), h .at 3 (omega arith))
-        (walk-rows n (r + 1) (sets t (4 * r) (row-by k m a b c)) xs (lesser-of v (judged-by (complaint k (sort-of m)) (place a))) (omega arith) (holds-after t r k a b c m xs h)
+        (walk-rows n (r + 1) (sets t (row-words * r) (row-by k m a b c)) xs (lesser-of v (judged-by (complaint k (sort-of m)) (place a))) (omega arith) (holds-after t r k a b c m xs h)
         ∙ ap₂ walked (sets-rows (row-by k m a b c) t r 1 (r + 1) (resolve-rows text s xs) (length-row-by k m a b c) refl)
         (ap (λ (u : Verdict). lesser-of (lesser-of v u) (least q)) (row-verdict k a m) ∙ lesser-of-assoc v (least p) (least q) ∙ ap (lesser-of v) (sym (least-append p q))))

@@ -1,8 +1,10 @@
 // Resolves the raw rows in place, and keeps the least complaint about the names in them.
 ghost use mathlib.Core.Path.{_≡_};
-ghost use Prim.Native.Nat.{_+_, _-_, _*_, _<_, _≤_};
+ghost use Prim.Native.Nat.{ℕ, _+_, _-_, _*_, _<_, _≤_};
+ghost use mathlib.Core.List.{List};
 ghost use lib.ListN.{getD};
 ghost use lib.Seq.{sets};
+ghost use Rattle.program.specs.Layout.{«row-words»};
 ghost use Rattle.name_table.specs.View.{meant, view, arrays, «text-at», «place-at»};
 ghost use Rattle.names.specs.RowComplaints.{«lesser-of»};
 ghost use Rattle.names.specs.ResolvedRows;
@@ -13,8 +15,11 @@ ghost use Rattle.resolution.specs.Walk as spec;
 use expressions::put;
 use name_table::Meaning;
 use name_table::number;
+use name_table::sort;
 use name_table::stands_for;
 use name_table::wide;
+use program::row;
+use token::refusal;
 
 // The least complaint so far: its number, 0 for none, and its place.
 pub struct Found {
@@ -43,15 +48,15 @@ fn lesser(a: Found, b: Found) -> Found
     b
 }
 
-// What a name stands for, by sort: 0 nothing, 1 a variable, 2 an array, 3 a val.
+// What a name stands for, by sort.
 fn sort_of(m: Meaning) -> u32
     ensures { λ r. ⌜ r ≡ spec.«sort-of» (meant m) ⌝ }
 {
     match m {
-        Meaning::Unknown => 0,
-        Meaning::Variable(_, _) => 1,
-        Meaning::Array(_, _, _) => 2,
-        Meaning::Constant(_) => 3,
+        Meaning::Unknown => sort::UNDECLARED,
+        Meaning::Variable(_) => sort::VAR,
+        Meaning::Array(_) => sort::ARRAY,
+        Meaning::Constant(_) => sort::VAL,
     }
 }
 
@@ -61,8 +66,8 @@ fn row_of(m: Meaning) -> u32
 {
     match m {
         Meaning::Unknown => 0,
-        Meaning::Variable(row, _) => row,
-        Meaning::Array(row, _, _) => row,
+        Meaning::Variable(row) => row,
+        Meaning::Array(row) => row,
         Meaning::Constant(_) => 0,
     }
 }
@@ -73,65 +78,65 @@ fn word_of(m: Meaning) -> u32
 {
     match m {
         Meaning::Unknown => 0,
-        Meaning::Variable(_, _) => 0,
-        Meaning::Array(_, _, _) => 0,
+        Meaning::Variable(_) => 0,
+        Meaning::Array(_) => 0,
         Meaning::Constant(w) => w,
     }
 }
 
-// 8 for a name that is not declared, 10 for one of the sort `wrong`, else 0.
+// Not declared, or of the sort `wrong`; else 0.
 fn unless(sort: u32, wrong: u32) -> u32
     ensures { λ r. ⌜ r ≡ spec.unless sort wrong ⌝ }
 {
-    if sort == 0 {
-        8
+    if sort == sort::UNDECLARED {
+        refusal::NOT_DECLARED
     } else if sort == wrong {
-        10
+        refusal::WRONG_KIND
     } else {
         0
     }
 }
 
-// 8 for a name that is not declared, 0 for one of the sort `right`, else 10.
+// Not declared, or not of the sort `right`; else 0.
 fn only(sort: u32, right: u32) -> u32
     ensures { λ r. ⌜ r ≡ spec.only sort right ⌝ }
 {
-    if sort == 0 {
-        8
+    if sort == sort::UNDECLARED {
+        refusal::NOT_DECLARED
     } else if sort == right {
         0
     } else {
-        10
+        refusal::WRONG_KIND
     }
 }
 
-// What a name of this sort deserves in a row of this kind: 8, 10, or 0 for nothing.
+// What a name of this sort deserves in a row of this kind, 0 for nothing.
 fn complaint(kind: u32, sort: u32) -> u32
     ensures { λ r. ⌜ r ≡ spec.complaint kind sort ⌝ }
 {
-    if kind == 4 {
-        unless(sort, 2)
-    } else if kind == 10 {
-        only(sort, 1)
-    } else if kind == 5 {
-        only(sort, 2)
-    } else if kind == 11 {
-        only(sort, 2)
+    if kind == row::VARIABLE {
+        unless(sort, sort::ARRAY)
+    } else if kind == row::ASSIGN {
+        only(sort, sort::VAR)
+    } else if kind == row::ELEMENT {
+        only(sort, sort::ARRAY)
+    } else if kind == row::ASSIGN_ELEMENT {
+        only(sort, sort::ARRAY)
     } else {
         0
     }
 }
 
-// The kinds whose field a is a name, but for 4.
+// The kinds whose field a is a name, but for a variable's.
 fn names_one(kind: u32) -> bool
     ensures { λ r. ⌜ r ≡ ResolvedRows.«names-one» kind ⌝ }
 {
-    if kind == 5 {
+    if kind == row::ELEMENT {
         true
-    } else if kind == 10 {
+    } else if kind == row::ASSIGN {
         true
     } else {
-        kind == 11
+        kind == row::ASSIGN_ELEMENT
     }
 }
 
@@ -146,13 +151,13 @@ fn field(table: &[u32; 4096], i: usize) -> u32
 // Row r, which is (k, a, b, c) and whose name stands for m, is resolved.
 fn resolve_row(table: &mut [u32; 4096], r: usize, m: Meaning, k: u32, a: u32, b: u32, c: u32)
     requires { ⌜ r < 1024 ⌝ }
-    ensures { λ _. ⌜ now (table .exit) ≡ sets (now (table .entry)) (4 * r) (spec.«row-by» k (meant m) a b c) ⌝ }
+    ensures { λ _. ⌜ now (table .exit) ≡ sets (now (table .entry)) («row-words» * r) (spec.«row-by» k (meant m) a b c) ⌝ }
 {
-    if k == 4 {
-        if sort_of(m) == 3 {
-            put(table, r, 3, word_of(m), 0, 0);
+    if k == row::VARIABLE {
+        if sort_of(m) == sort::VAL {
+            put(table, r, row::NUMBER, word_of(m), 0, 0);
         } else {
-            put(table, r, 4, row_of(m), 0, 0);
+            put(table, r, row::VARIABLE, row_of(m), 0, 0);
         }
     } else if names_one(k) {
         put(table, r, k, row_of(m), b, c);
@@ -165,20 +170,23 @@ fn resolve_row(table: &mut [u32; 4096], r: usize, m: Meaning, k: u32, a: u32, b:
 fn walk_rows(
     source: &[u8],
     places: &[u32],
-    lengths: &[u32],
+    values: &[u32],
     name_places: &[u32],
     name_lengths: &[u32],
-    rows: &[u32],
+    name_rows: &[u32],
     sorts: &[u32],
     words: &[u32],
-    sizes: &[u32],
     count: usize,
     table: &mut [u32; 4096],
     first: usize,
     end: usize,
 ) -> Found
     requires { ⌜ end ≤ 1024 ⌝ }
-    ensures { λ r. ⌜ walked (now (table .exit)) (verdict r) ≡ walk («text-at» (now (source .entry)) (now (places .entry)) (now (lengths .entry))) («place-at» (now (places .entry))) («scope-of» (view (now (source .entry)) (arrays (now («name_places» .entry)) (now («name_lengths» .entry)) (now (rows .entry)) (now (sorts .entry)) (now (words .entry)) (now (sizes .entry))) count)) (end - first) (now (table .entry)) first Complaints.fine ⌝ }
+    ensures { λ r. ⌜ ((sizes : List ℕ) → walked (now (table .exit)) (verdict r)
+        ≡ walk («text-at» (now (source .entry)) (now (places .entry)) (now (values .entry))) («place-at» (now (places .entry)))
+        («scope-of» (view (now (source .entry))
+        (arrays (now («name_places» .entry)) (now («name_lengths» .entry)) (now («name_rows» .entry)) (now (sorts .entry)) (now (words .entry)) sizes) count))
+        (end - first) (now (table .entry)) first Complaints.fine) ⌝ }
 {
     let mut least = Found {
         number: 0,
@@ -186,20 +194,19 @@ fn walk_rows(
     };
     let mut r = first;
     while r < end {
-        let k = field(table, 4 * r);
-        let a = field(table, 4 * r + 1);
-        let b = field(table, 4 * r + 2);
-        let c = field(table, 4 * r + 3);
+        let k = field(table, row::WORDS * r);
+        let a = field(table, row::WORDS * r + 1);
+        let b = field(table, row::WORDS * r + 2);
+        let c = field(table, row::WORDS * r + 3);
         let p = number(places, wide(a));
-        let n = number(lengths, wide(a));
+        let n = number(values, wide(a));
         let m = stands_for(
             source,
             name_places,
             name_lengths,
-            rows,
+            name_rows,
             sorts,
             words,
-            sizes,
             count,
             p,
             n,
@@ -219,31 +226,33 @@ fn walk_rows(
 pub fn resolve(
     source: &[u8],
     places: &[u32],
-    lengths: &[u32],
+    values: &[u32],
     name_places: &[u32; 256],
     name_lengths: &[u32; 256],
-    rows: &[u32; 256],
+    name_rows: &[u32; 256],
     sorts: &[u32; 256],
     words: &[u32; 256],
-    sizes: &[u32; 256],
     count: usize,
     table: &mut [u32; 4096],
     first: usize,
     end: usize,
 ) -> Found
     requires { ⌜ end ≤ 1024 ⌝ }
-    ensures { λ r. ⌜ walked (now (table .exit)) (verdict r) ≡ walk («text-at» (now (source .entry)) (now (places .entry)) (now (lengths .entry))) («place-at» (now (places .entry))) («scope-of» (view (now (source .entry)) (arrays (now («name_places» .entry)) (now («name_lengths» .entry)) (now (rows .entry)) (now (sorts .entry)) (now (words .entry)) (now (sizes .entry))) count)) (end - first) (now (table .entry)) first Complaints.fine ⌝ }
+    ensures { λ r. ⌜ ((sizes : List ℕ) → walked (now (table .exit)) (verdict r)
+        ≡ walk («text-at» (now (source .entry)) (now (places .entry)) (now (values .entry))) («place-at» (now (places .entry)))
+        («scope-of» (view (now (source .entry))
+        (arrays (now («name_places» .entry)) (now («name_lengths» .entry)) (now («name_rows» .entry)) (now (sorts .entry)) (now (words .entry)) sizes) count))
+        (end - first) (now (table .entry)) first Complaints.fine) ⌝ }
 {
     walk_rows(
         source,
         places,
-        lengths,
+        values,
         name_places,
         name_lengths,
-        rows,
+        name_rows,
         sorts,
         words,
-        sizes,
         count,
         table,
         first,

@@ -17,7 +17,8 @@ push-constant w = Decsp 1 ∷ load-constant 0 w ++ Strspi 0 0 ∷ []
 unfoldable pub push-variable : ℕ → List Instr
 push-variable o = Decsp 1 ∷ load-constant 1 (4 * o) ++ Ldr 1 7 0 ∷ Strspi 0 0 ∷ []
 
--- What a program means: "A subscript, read unsigned, that is not below the array's length ends the run": first that it is below 2 ^ 14, then that its difference from the length n is negative; each test has its own SVC 2
+-- What a program means: "A subscript, read unsigned, that is not below the array's length ends the run": first that it is below 2 ^ 14, then that its difference from the length n is
+-- negative; each test has its own SVC 2
 unfoldable pub check-subscript : ℕ → List Instr
 check-subscript n =
     Ldrspi 0 0 ∷ Shri 14 0 2 ∷ Beq 0 ∷ Svc 2 ∷ load-constant 1 n ++ Subr 1 0 2 ∷ Shri 31 2 2 ∷ Bne 0 ∷ Svc 2 ∷ []
@@ -35,7 +36,8 @@ monadic-instruction invert = Mvnr 0 0
 unfoldable pub work-monadic-code : Monadic → List Instr
 work-monadic-code o = Ldrspi 0 0 ∷ monadic-instruction o ∷ Strspi 0 0 ∷ []
 
--- r0 takes the truth of register i being below register j as signed numbers: of equal signs the difference's sign decides, else the first one's. "001's `<` (subtract, then sign) is wrong when the difference overflows"
+-- r0 takes the truth of register i being below register j as signed numbers: of equal signs the difference's sign decides, else the first one's. "001's `<` (subtract, then sign) is wrong
+-- when the difference overflows"
 unfoldable pub less-than : ℕ → ℕ → List Instr
 less-than i j = Shri 31 i 2 ∷ Shri 31 j 3 ∷ Subr 3 2 3 ∷ Bne 1 ∷ Subr j i 0 ∷ Shri 31 0 2 ∷ Negr 2 0 ∷ []
 

@@ -6,7 +6,8 @@ use Rattle.thumb.specs.declared.Instr.the-variants.{Svc}
 use Rattle.program.specs.Tree.{Program}
 use Rattle.program.specs.Core.{Expression, constant, variable, element, monadic, diadic, Process, skip, stop, assign, assign-element, sequence, conditional, loop, core-process}
 use Rattle.rules.specs.Bytes.{bytes, size}
-use Rattle.rules.specs.Blocks.{push-constant, push-variable, check-subscript, load-element, work-monadic-code, work-diadic-code, assign-variable, store-element, take-condition, jump-over, jump-back}
+use Rattle.rules.specs.Blocks.{push-constant, push-variable, check-subscript, load-element, work-monadic-code, work-diadic-code, assign-variable, store-element, take-condition, jump-over}
+use Rattle.rules.specs.Blocks.{jump-back}
 
 unfoldable pub expression-code : Expression → List Instr
 expression-code (constant w) = push-constant w

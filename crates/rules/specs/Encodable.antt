@@ -15,12 +15,14 @@ use Rattle.thumb.specs.declared.Encoded.{Encoded}
 use Rattle.thumb.specs.declared.Instr.{Instr}
 use Rattle.thumb.specs.declared.Instr.the-variants.{Shli, Movi, Addi, Svc}
 use Rattle.program.specs.Tree as tree
-use Rattle.program.specs.Tree.{Monadic, negate, invert, Diadic, plus, minus, times, bit-and, bit-or, bit-xor, right, left, equal, unequal, less, at-most, greater, at-least, Declaration, data-words, Program}
+use Rattle.program.specs.Tree.{Monadic, negate, invert, Diadic, plus, minus, times, bit-and, bit-or, bit-xor, right, left, equal, unequal, less, at-most, greater, at-least, Declaration}
+use Rattle.program.specs.Tree.{data-words, Program}
 use Rattle.program.specs.Core.{core, core-process, core-list}
 use Rattle.program.specs.Resolved.{Resolved, ResolvedProcess, ResolvedAll}
 use Rattle.rules.specs.Bytes.{size}
 use Rattle.rules.specs.Constant.{byte-constant, span-constant, long-constant, spans-byte, load-constant}
-use Rattle.rules.specs.Blocks.{push-constant, push-variable, check-subscript, load-element, work-monadic-code, less-than, far-shift, diadic-instructions, work-diadic-code, assign-variable, store-element, take-condition, jump-over, jump-back}
+use Rattle.rules.specs.Blocks.{push-constant, push-variable, check-subscript, load-element, work-monadic-code, less-than, far-shift, diadic-instructions, work-diadic-code, assign-variable}
+use Rattle.rules.specs.Blocks.{store-element, take-condition, jump-over, jump-back}
 use Rattle.rules.specs.Code.{expression-code, choice-code, repeat-code, process-code, image-code, image}
 use Rattle.rules.specs.Laws.{size-append, list-code}
 use Rattle.rules.specs.Bits.{trailing-lt, span-byte}
@@ -73,8 +75,10 @@ constant-encodable d w hd hw =
     (λ f. let s = leb-true 24 (leadingZeros 32 w + trailingZeros 32 w) f in
     (movi-fits d (w / 2 ^ trailingZeros 32 w) hd (span-byte w (omega arith) hw s), (shli-fits (trailingZeros 32 w) d (trailing-lt 32 w (omega arith) hw) hd, tt)))
     (λ f.
-    let s = shli-fits 8 d (lit< tt) hd in
-    (movi-fits d (w / 16777216) hd (omega arith), (s, (addi-fits d (w / 65536 % 256) hd (omega arith), (s, (addi-fits d (w / 256 % 256) hd (omega arith), (s, (addi-fits d (w % 256) hd (omega arith), tt)))))))))
+    let s = shli-fits 8 d (lit< tt) hd in (
+      movi-fits d (w / 16777216) hd (omega arith),
+      (s, (addi-fits d (w / 65536 % 256) hd (omega arith), (s, (addi-fits d (w / 256 % 256) hd (omega arith), (s, (addi-fits d (w % 256) hd (omega arith), tt)))))),
+    )))
 
 diadic-encodable : (o : Diadic) → Encodable (diadic-instructions o)
 unfolding encodeOf put swap32 narrow less-than far-shift

@@ -6,6 +6,7 @@ use native.Mathlib.Omega.{arith}
 use lib.ListN.{length, length-append}
 use lib.Dec.{eqb, ltb}
 use Rattle.word.specs.Choice.{pick}
+use Rattle.program.specs.Layout.{code-room}
 use Rattle.thumb.specs.Code.{encodeOf}
 use Rattle.thumb.specs.Bytes.{halfword-bytes, encoded-bytes}
 use Rattle.thumb.specs.declared.Instr.{Instr}
@@ -15,7 +16,8 @@ use Rattle.program.specs.Tree.{Monadic, negate, Diadic, plus, minus, times, bit
 use Rattle.program.specs.Core.{core, core-process, core-list}
 use Rattle.rules.specs.Bytes.{bytes-of, bytes, size}
 use Rattle.rules.specs.Constant.{spans-byte, load-constant}
-use Rattle.rules.specs.Blocks.{push-constant, push-variable, check-subscript, load-element, work-monadic-code, less-than, far-shift, diadic-instructions, work-diadic-code, assign-variable, store-element, take-condition}
+use Rattle.rules.specs.Blocks.{push-constant, push-variable, check-subscript, load-element, work-monadic-code, less-than, far-shift, diadic-instructions, work-diadic-code, assign-variable}
+use Rattle.rules.specs.Blocks.{store-element, take-condition}
 use Rattle.rules.specs.Code.{expression-code, choice-code, repeat-code, process-code, image-code, image}
 use Rattle.rules.specs.Laws.{list-code}
 use Rattle.rules.specs.Tokens.{tokens-of, process-tokens, list-tokens}
@@ -117,7 +119,7 @@ mutual
   list-room (tree.also p ps) = rw (list-code p ps) (simp length-append (omega (arith, process-room p, list-room ps)))
 
 -- The image: "inside 48 x tokens + 256 bytes"
-pub image-room : (p : tree.Program) → length (image p) ≤ 48 * process-tokens (p .body) + 256
+pub image-room : (p : tree.Program) → length (image p) ≤ code-room (process-tokens (p .body))
 unfolding image image-code size
 image-room p =
     let c = process-code (core-process (p .body)) in

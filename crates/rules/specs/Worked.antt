@@ -88,5 +88,7 @@ unfolding data-words shift-right signed-less
 source-outcomes = refl
 
 pub image-outcomes : map by-image processes ≡ outcomes
-unfolding image image-code process-code expression-code push-constant check-subscript load-element less-than far-shift work-diadic-code assign-variable store-element choice-code take-condition jump-over load-constant trailingZeros leadingZeros bytes bytes-of size encoded-bytes encodeOf put put-long swap32 narrow refusalOf freshOf runOf runFrom onceOf fetchOf withSecond decodeOf find table widen executeOf exec.load exec.store slotOf result takes next branch jump link state.moves shift-left shift-right
+unfolding image image-code process-code expression-code push-constant check-subscript load-element less-than far-shift work-diadic-code assign-variable store-element choice-code
+    take-condition jump-over load-constant trailingZeros leadingZeros bytes bytes-of size encoded-bytes encodeOf put put-long swap32 narrow refusalOf freshOf runOf runFrom onceOf
+    fetchOf withSecond decodeOf find table widen executeOf exec.load exec.store slotOf result takes next branch jump link state.moves shift-left shift-right
 image-outcomes = refl

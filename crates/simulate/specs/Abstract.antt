@@ -11,7 +11,8 @@ use Rattle.word.specs.Choice.{pick}
 use Rattle.word.specs.Word.{add, sub, mul, complement, shift-left, shift-right}
 use Rattle.word.specs.Access.{Access, loaded, stored}
 use Rattle.thumb.specs.declared.Instr.{Instr}
-use Rattle.thumb.specs.declared.Instr.the-variants.{Shli, Shri, Ashri, Addr, Subr, Movi, Addi, Subi, Ldrpci, Strspi, Ldrspi, Addpci, Addspi, Andr, Xorr, Shl, Shr, Negr, Orr, Mul, Mvnr, Str, Ldr, Stri, Ldri, Incsp, Decsp, Svc, Beq, Bne, Bge, Blt, Bu, Bl}
+use Rattle.thumb.specs.declared.Instr.the-variants.{Shli, Shri, Ashri, Addr, Subr, Movi, Addi, Subi, Ldrpci, Strspi, Ldrspi, Addpci, Addspi, Andr, Xorr, Shl, Shr, Negr, Orr, Mul, Mvnr, Str, Ldr}
+use Rattle.thumb.specs.declared.Instr.the-variants.{Stri, Ldri, Incsp, Decsp, Svc, Beq, Bne, Bge, Blt, Bu, Bl}
 use Rattle.exec.specs.State.{base}
 
 -- the registers that images use: r0 to r3, and r7, which keeps the data's base

@@ -14,7 +14,8 @@ use Rattle.word.specs.Choice.{pick}
 use Rattle.word.specs.Word.{add}
 use Rattle.word.specs.Access.{Access, loaded, stored}
 use Rattle.thumb.specs.declared.Instr.{Instr}
-use Rattle.thumb.specs.declared.Instr.the-variants.{Shli, Shri, Ashri, Addr, Subr, Movi, Addi, Subi, Ldrpci, Strspi, Ldrspi, Addpci, Addspi, Andr, Xorr, Shl, Shr, Negr, Orr, Mul, Mvnr, Str, Ldr, Stri, Ldri, Incsp, Decsp, Svc, Beq, Bne, Bge, Blt, Bu, Bl}
+use Rattle.thumb.specs.declared.Instr.the-variants.{Shli, Shri, Ashri, Addr, Subr, Movi, Addi, Subi, Ldrpci, Strspi, Ldrspi, Addpci, Addspi, Andr, Xorr, Shl, Shr, Negr, Orr, Mul, Mvnr, Str, Ldr}
+use Rattle.thumb.specs.declared.Instr.the-variants.{Stri, Ldri, Incsp, Decsp, Svc, Beq, Bne, Bge, Blt, Bu, Bl}
 use Rattle.exec.specs.State.{base, next, takes, result, moves, jump, branch, link}
 use Rattle.exec.specs.Exec as real
 use Rattle.exec.specs.Exec.{Effect, done, after, slotOf, executeOf}
@@ -142,12 +143,15 @@ module _ (array : ℕ → Bool) (first c : List ℕ) (short : length c ≤ 65536
         by (some k) h e = known k (getD m k none) refl (reaches (length m) ad k h) e
         by none h e = let x : _≡_ {A = ℕ} 0 1 = cc (e) in absurd (omega arith)
 
-    store-follows : (d ad : ℕ) → with-word (word-at (length m) ad) (λ k. old-word (array k) (getD m k none) (λ v. some (machine (pc + 2) r sp rs (set m k (some (get r d))) (note (array k) l (stored k v (get r d)))))) ≡ some z
+    store-follows : (d ad : ℕ)
+        → with-word (word-at (length m) ad)
+        (λ k. old-word (array k) (getD m k none) (λ v. some (machine (pc + 2) r sp rs (set m k (some (get r d))) (note (array k) l (stored k v (get r d)))))) ≡ some z
         → Follows array first (length m) l z (real.store w (concrete now lr) d ad)
     unfolding real.store next slotOf
     store-follows d ad e = by (word-at (length m) ad) refl e
       where
-        put-it : (k : ℕ) (y : List Access) → Reaches (length m) ad k → l ++ listed array (stored k (getD w k 0) (get r d) ∷ []) ≡ y → some (machine (pc + 2) r sp rs (set m k (some (get r d))) y) ≡ some z
+        put-it : (k : ℕ) (y : List Access) → Reaches (length m) ad k → l ++ listed array (stored k (getD w k 0) (get r d) ∷ []) ≡ y
+            → some (machine (pc + 2) r sp rs (set m k (some (get r d))) y) ≡ some z
             → Follows array first (length m) l z (real.store w (concrete now lr) d ad)
         put-it k y o t e =
             let s : machine (pc + 2) r sp rs (set m k (some (get r d))) y ≡ z = cc (e) in
@@ -161,7 +165,8 @@ module _ (array : ℕ → Bool) (first c : List ℕ) (short : length c ≤ 65536
         known k true (some v) q h o e = put-it k (l ++ stored k v (get r d) ∷ []) o (rw (a .same k v h) (listed-one array l (stored k v (get r d)) ∙ rw q refl)) e
         known k false u q h o e = put-it k l o (listed-one array l (stored k (getD w k 0) (get r d)) ∙ rw q refl) e
 
-        by : (x : Option ℕ) → word-at (length m) ad ≡ x → with-word x (λ k. old-word (array k) (getD m k none) (λ v. some (machine (pc + 2) r sp rs (set m k (some (get r d))) (note (array k) l (stored k v (get r d)))))) ≡ some z
+        by : (x : Option ℕ) → word-at (length m) ad ≡ x
+            → with-word x (λ k. old-word (array k) (getD m k none) (λ v. some (machine (pc + 2) r sp rs (set m k (some (get r d))) (note (array k) l (stored k v (get r d)))))) ≡ some z
             → Follows array first (length m) l z (real.store w (concrete now lr) d ad)
         by (some k) h e = known k (array k) (getD m k none) refl refl (reaches (length m) ad k h) e
         by none h e = let x : _≡_ {A = ℕ} 0 1 = cc (e) in absurd (omega arith)

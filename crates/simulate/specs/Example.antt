@@ -54,7 +54,9 @@ five-demand = demand3 five five-sound (rw five-image (lit≤ tt)) lent-words fiv
 
 -- it ends by SVC 0 with 5 in x
 five-ends : EndsBy five 0 (5 ∷ []) (runOf 100 (image five) lent-words (started five lent-words))
-unfolding five lent-words image image-code process-code expression-code push-constant work-diadic-code assign-variable load-constant trailingZeros leadingZeros bytes bytes-of encoded-bytes encodeOf put data-words startOf startRefusal refusalOf freshOf runOf runFrom onceOf fetchOf withSecond decodeOf find table executeOf exec.load exec.store slotOf result takes next state.moves
+unfolding five lent-words image image-code process-code expression-code push-constant work-diadic-code assign-variable load-constant trailingZeros leadingZeros bytes bytes-of
+    encoded-bytes encodeOf put data-words startOf startRefusal refusalOf freshOf runOf runFrom onceOf fetchOf withSecond decodeOf find table executeOf exec.load exec.store slotOf
+    result takes next state.moves
 five-ends = record { by-svc = refl; number = refl; same-words = refl }
 
 -- ── the statement's clauses as they read for this program, each with its number: one that said less, or more, would not fit here ──
@@ -140,7 +142,10 @@ climb-access = refl
 
 -- so has the machine's
 climb-trace : trace-of climb (tried 120 (image climb) zeros (started climb zeros)) ≡ stored 1 0 0 ∷ []
-unfolding climb counter image image-code process-code expression-code push-constant push-variable check-subscript store-element repeat-code take-condition jump-over jump-back less-than work-diadic-code assign-variable load-constant trailingZeros leadingZeros bytes bytes-of size encoded-bytes encodeOf put put-long narrow widen swap32 data-words array-word startOf startRefusal refusalOf freshOf tried stepOf onceOf fetchOf withSecond decodeOf find table executeOf exec.load exec.store slotOf result takes next branch jump link state.moves shift-left shift-right listed
+unfolding climb counter image image-code process-code expression-code push-constant push-variable check-subscript store-element repeat-code take-condition jump-over jump-back
+    less-than work-diadic-code assign-variable load-constant trailingZeros leadingZeros bytes bytes-of size encoded-bytes encodeOf put put-long narrow widen swap32 data-words
+    array-word startOf startRefusal refusalOf freshOf tried stepOf onceOf fetchOf withSecond decodeOf find table executeOf exec.load exec.store slotOf result takes next branch jump
+    link state.moves shift-left shift-right listed
 climb-trace = refl
 
 -- and it ends by SVC 2 with the source's words
@@ -149,5 +154,8 @@ unfolding climb counter data-words signed-less
 climb-words = refl
 
 climb-ends : EndsBy climb 2 (1 ∷ 0 ∷ []) (runOf 120 (image climb) zeros (started climb zeros))
-unfolding climb counter image image-code process-code expression-code push-constant push-variable check-subscript store-element repeat-code take-condition jump-over jump-back less-than work-diadic-code assign-variable load-constant trailingZeros leadingZeros bytes bytes-of size encoded-bytes encodeOf put put-long narrow widen swap32 data-words startOf startRefusal refusalOf freshOf runOf runFrom onceOf fetchOf withSecond decodeOf find table executeOf exec.load exec.store slotOf result takes next branch jump link state.moves shift-left shift-right
+unfolding climb counter image image-code process-code expression-code push-constant push-variable check-subscript store-element repeat-code take-condition jump-over jump-back
+    less-than work-diadic-code assign-variable load-constant trailingZeros leadingZeros bytes bytes-of size encoded-bytes encodeOf put put-long narrow widen swap32 data-words startOf
+    startRefusal refusalOf freshOf runOf runFrom onceOf fetchOf withSecond decodeOf find table executeOf exec.load exec.store slotOf result takes next branch jump link state.moves
+    shift-left shift-right
 climb-ends = record { by-svc = refl; number = refl; same-words = refl }

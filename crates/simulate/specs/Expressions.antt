@@ -18,7 +18,8 @@ use Rattle.rules.specs.Constant.{load-constant}
 use Rattle.rules.specs.Blocks.{push-constant, push-variable, check-subscript, load-element, monadic-instruction, work-monadic-code, diadic-instructions, work-diadic-code}
 use Rattle.rules.specs.Code.{expression-code}
 use Rattle.simulate.specs.Abstract.{registers, machine, performs, width}
-use Rattle.simulate.specs.Straight.{At, nil, _▸_, advance, head-at, tail-at, first-at, rest-at, advance-append, here, more, go, join, address, load-stack, store-stack, raise-stack, lower-stack, load-data, equal-taken, equal-passed, unequal-taken, unequal-passed, constant-0, constant-1}
+use Rattle.simulate.specs.Straight.{At, nil, _▸_, advance, head-at, tail-at, first-at, rest-at, advance-append, here, more, go, join, address, load-stack, store-stack, raise-stack}
+use Rattle.simulate.specs.Straight.{lower-stack, load-data, equal-taken, equal-passed, unequal-taken, unequal-passed, constant-0, constant-1}
 use Rattle.simulate.specs.Working.{Makes, diadic-run, diadic-fits, monadic-fits}
 use Rattle.simulate.specs.Relation.{Setting, data-of, array-of, Limits, there, Memory, Good, pushed, popped}
 use Rattle.simulate.specs.Block.{Claim, relate, good, apart, facts}

@@ -11,10 +11,6 @@ abbrev pub times : {A : Type 0} → (A → A) → ℕ → A → A
 times f zero x = x
 times f (suc n) x = times f n (f x)
 
-pub times-after : {A : Type 0} (f : A → A) (n : ℕ) (x : A) → times f (suc n) x ≡ f (times f n x)
-times-after f zero x = refl
-times-after f (suc n) x = times-after f n (f x)
-
 pub times-stays : {A : Type 0} (f : A → A) (n : ℕ) (x : A) → f x ≡ x → times f n x ≡ x
 times-stays f zero x e = refl
 times-stays f (suc n) x e = ap (times f n) e ∙ times-stays f n x e

@@ -5,12 +5,14 @@ use Prim.Native.Nat.{ℕ, _+_, _*_, _-_, _/_, _%_, _≤_, _<_}
 use native.Mathlib.Omega.{arith}
 use lib.ListN.{length, length-append}
 use Rattle.word.specs.Word.{add}
-use Rattle.thumb.specs.Code.{Form, put, put-long, encodeOf, swap32, narrow, SHLI, SHRI, ASHRI, ADDR, SUBR, MOVI, ADDI, SUBI, LDRPCI, STRSPI, LDRSPI, ADDPCI, ADDSPI, ANDR, XORR, SHL, SHR, NEGR, ORR, MUL, MVNR, STR, LDR, STRI, LDRI, INCSP, DECSP, SVC, BEQ, BNE, BGE, BLT, BU}
+use Rattle.thumb.specs.Code.{Form, put, put-long, encodeOf, swap32, narrow, SHLI, SHRI, ASHRI, ADDR, SUBR, MOVI, ADDI, SUBI, LDRPCI, STRSPI, LDRSPI, ADDPCI, ADDSPI, ANDR, XORR, SHL, SHR, NEGR}
+use Rattle.thumb.specs.Code.{ORR, MUL, MVNR, STR, LDR, STRI, LDRI, INCSP, DECSP, SVC, BEQ, BNE, BGE, BLT, BU}
 use Rattle.thumb.specs.Fields.{put-cases}
 use Rattle.thumb.specs.Laws.{long-cases}
 use Rattle.thumb.specs.ByteLaws.{length-bytes}
 use Rattle.thumb.specs.declared.Instr.{Instr}
-use Rattle.thumb.specs.declared.Instr.the-variants.{Shli, Shri, Ashri, Addr, Subr, Movi, Addi, Subi, Ldrpci, Strspi, Ldrspi, Addpci, Addspi, Andr, Xorr, Shl, Shr, Negr, Orr, Mul, Mvnr, Str, Ldr, Stri, Ldri, Incsp, Decsp, Svc, Beq, Bne, Bge, Blt, Bu, Bl}
+use Rattle.thumb.specs.declared.Instr.the-variants.{Shli, Shri, Ashri, Addr, Subr, Movi, Addi, Subi, Ldrpci, Strspi, Ldrspi, Addpci, Addspi, Andr, Xorr, Shl, Shr, Negr, Orr, Mul, Mvnr, Str, Ldr}
+use Rattle.thumb.specs.declared.Instr.the-variants.{Stri, Ldri, Incsp, Decsp, Svc, Beq, Bne, Bge, Blt, Bu, Bl}
 use Rattle.rules.specs.Bytes.{bytes-of, bytes, size}
 use Rattle.simulate.specs.Abstract.{target, width}
 use Rattle.simulate.specs.Straight.{At, nil, _▸_, advance}

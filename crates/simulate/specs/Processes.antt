@@ -22,7 +22,8 @@ use Rattle.rules.specs.Blocks.{check-subscript, assign-variable, store-element,
 use Rattle.rules.specs.Code.{expression-code, choice-code, repeat-code, process-code}
 use Rattle.rules.specs.Laws.{list-code}
 use Rattle.simulate.specs.Abstract.{registers, machine, target}
-use Rattle.simulate.specs.Straight.{Holds, At, nil, _▸_, advance, head-at, tail-at, first-at, rest-at, advance-append, Goes, Path, here, more, go, address, load-stack, raise-stack, store-data, unequal-taken, unequal-passed, constant-1, constant-2}
+use Rattle.simulate.specs.Straight.{Holds, At, nil, _▸_, advance, head-at, tail-at, first-at, rest-at, advance-append, Goes, Path, here, more, go, address, load-stack, raise-stack}
+use Rattle.simulate.specs.Straight.{store-data, unequal-taken, unequal-passed, constant-1, constant-2}
 use Rattle.simulate.specs.Places.{advance-size, size-even, size-inside, over-lands, back-lands}
 use Rattle.simulate.specs.Relation.{Setting, data-of, array-of, Limits, Fits, there, hop, ItemAt, Continues, Memory, Good, popped, written}
 use Rattle.simulate.specs.Block.{Claim, in-order-size, relate, good, apart, facts}
@@ -94,11 +95,14 @@ module _ {E : Setting} (ok : Limits E) (d : List ℕ) (t : List Access) (c : Lis
   -- the condition comes off the stack; if it holds, the jump after the four instructions is stepped over
   module _ (x : Item) (w : ℕ) (p : List ℕ) (mr : Memory E d (w ∷ p) k mem) where
     abbrev Takes : ℕ → Type 0
-    Takes pc₁ = Path (array-of E) (E .code) (Good E (state d t (x ∷ c) (w ∷ p) going)) (machine pc₁ (registers (add w 0) b g r3) (address (suc k)) (add w 0) mem t) 4 (machine pc (registers a b g r3) (address k) rs mem t)
+    Takes pc₁ = Path (array-of E) (E .code) (Good E (state d t (x ∷ c) (w ∷ p) going)) (machine pc₁ (registers (add w 0) b g r3) (address (suc k)) (add w 0) mem t) 4
+        (machine pc (registers a b g r3) (address k) rs mem t)
 
     -- three instructions, then the branch
     takes : (pc₁ : ℕ) → At (E .code) pc take-condition
-        → (Holds (E .code) (pc + 2 + 2 + 2) (Bne 1) → Goes (array-of E) (E .code) (machine (pc + 2 + 2 + 2) (registers (add w 0) b g r3) (address (suc k)) (add w 0) mem t) (machine pc₁ (registers (add w 0) b g r3) (address (suc k)) (add w 0) mem t))
+        → (Holds (E .code) (pc + 2 + 2 + 2) (Bne 1)
+        → Goes (array-of E) (E .code) (machine (pc + 2 + 2 + 2) (registers (add w 0) b g r3) (address (suc k)) (add w 0) mem t)
+        (machine pc₁ (registers (add w 0) b g r3) (address (suc k)) (add w 0) mem t))
         → Takes pc₁
     unfolding take-condition
     takes pc₁ (f₁ ▸ f₂ ▸ f₃ ▸ f₄ ▸ nil) branch =
@@ -153,7 +157,8 @@ module _ {E : Setting} (ok : Limits E) (d : List ℕ) (t : List Access) (c : Lis
       let atx = first-at cx _ at in
       let cn₁ : Continues (E .code) c (advance cy (advance cx pc₁ + 4)) = simp advance-append at cn in
       let j : target (pc + 2 + 2 + 2 + 2) ((size cx + 4) / 2) ≡ advance cx pc₁ + 4
-      = over-lands (pc + 2 + 2 + 2 + 2) (size cx + 4) (omega (arith, f₅ .inside, ok .short-code)) (omega (arith, size-inside (f₅ .inside) atx, ok .short-code)) (omega (arith, size-even atx)) ∙ omega (arith, advance-size atx) in
+      = over-lands (pc + 2 + 2 + 2 + 2) (size cx + 4) (omega (arith, f₅ .inside, ok .short-code)) (omega (arith, size-inside (f₅ .inside) atx, ok .short-code))
+      (omega (arith, size-even atx)) ∙ omega (arith, advance-size atx) in
       record {
         n = _;
         z = _;
@@ -211,7 +216,8 @@ module _ {E : Setting} (ok : Limits E) (d : List ℕ) (t : List Access) (c : Lis
       let atx = first-at cx _ at in
       let cn₁ : Continues (E .code) c (advance cx pc₁ + 4) = simp advance-append at cn in
       let j : target (pc + 2 + 2 + 2 + 2) ((size cx + 4) / 2) ≡ advance cx pc₁ + 4
-      = over-lands (pc + 2 + 2 + 2 + 2) (size cx + 4) (omega (arith, f₅ .inside, ok .short-code)) (omega (arith, size-inside (f₅ .inside) atx, ok .short-code)) (omega (arith, size-even atx)) ∙ omega (arith, advance-size atx) in
+      = over-lands (pc + 2 + 2 + 2 + 2) (size cx + 4) (omega (arith, f₅ .inside, ok .short-code)) (omega (arith, size-inside (f₅ .inside) atx, ok .short-code))
+      (omega (arith, size-even atx)) ∙ omega (arith, advance-size atx) in
       record {
         n = _;
         z = _;

@@ -76,7 +76,14 @@ pub record Called : Type 0 where
 
 -- a step hands back no count: it is what the step rule counts it as, of which a run's count is the sum
 abbrev pub by-step : Effect → List Effect → Called
-by-step e es = record { machine = e .after .state .machine; words = e .after .words; status = e .after .state .status; number = e .after .state .number; count = step-count (e .after .state .status); tries = es }
+by-step e es = record {
+  machine = e .after .state .machine;
+  words = e .after .words;
+  status = e .after .state .status;
+  number = e .after .state .number;
+  count = step-count (e .after .state .status);
+  tries = es;
+}
 
 abbrev pub by-run : RunAfter → List Effect → Called
 by-run r es = record { machine = r .state .machine; words = r .words; status = r .state .status; number = r .state .number; count = r .state .count; tries = es }

@@ -196,7 +196,8 @@ abbrev pub Loads : (ℕ → Bool) → List ℕ → (ℕ → List (Option ℕ) �
 Loads array code Q z n r sp mem l d w pc is =
     (rs : ℕ) → At code pc is → Path array code Q z n (machine (advance is pc) (set r d w) sp w mem l) → Path array code Q z (and-then is n) (machine pc r sp rs mem l)
 
-module _ (array : ℕ → Bool) (code : List ℕ) (Q : ℕ → List (Option ℕ) → List Access → Type 0) (z : Abstract) (n : ℕ) (r : List ℕ) (sp : ℕ) (mem : List (Option ℕ)) (l : List Access) (q : Q sp mem l) (d : ℕ) (b : d < length r) (w pc : ℕ) (h : w < 4294967296) where
+module _ (array : ℕ → Bool) (code : List ℕ) (Q : ℕ → List (Option ℕ) → List Access → Type 0) (z : Abstract) (n : ℕ) (r : List ℕ) (sp : ℕ) (mem : List (Option ℕ)) (l : List Access)
+    (q : Q sp mem l) (d : ℕ) (b : d < length r) (w pc : ℕ) (h : w < 4294967296) where
   load-byte : Loads array code Q z n r sp mem l d w pc (byte-constant d w)
   load-byte rs (f ▸ nil) p = more q (go f refl) p
 
@@ -221,23 +222,27 @@ module _ (array : ℕ → Bool) (code : List ℕ) (Q : ℕ → List (Option ℕ)
       by (no k) (no s) = let e = constant-span d w (omega arith) (omega arith) in rw e (load-span (omega arith) rs (rw e at at) (rw e at p))
       by (no k) (yes s) = let e = constant-long d w (omega arith) s in rw e (load-long rs (rw e at at) (rw e at p))
 
-loads-constant : {array : ℕ → Bool} {code : List ℕ} {Q : ℕ → List (Option ℕ) → List Access → Type 0} {z : Abstract} {n pc : ℕ} {r : List ℕ} {sp rs : ℕ} {mem : List (Option ℕ)} {l : List Access} (d w : ℕ) → d < length r
+loads-constant : {array : ℕ → Bool} {code : List ℕ} {Q : ℕ → List (Option ℕ) → List Access → Type 0} {z : Abstract} {n pc : ℕ} {r : List ℕ} {sp rs : ℕ} {mem : List (Option ℕ)}
+    {l : List Access} (d w : ℕ) → d < length r
     → At code pc (load-constant d w) → w < 4294967296 → Q sp mem l → Path array code Q z n (machine (advance (load-constant d w) pc) (set r d w) sp w mem l)
     → Path array code Q z (and-then (load-constant d w) n) (machine pc r sp rs mem l)
 loads-constant {array} {code} {Q} {z} {n} {pc} {r} {sp} {rs} {mem} {l} d w b at h q p = load-any array code Q z n r sp mem l q d b w pc h rs at p
 
 -- the constant in r0, r1, r2: the registers stand as a list whose places compute
-pub constant-0 : {array : ℕ → Bool} {code : List ℕ} {Q : ℕ → List (Option ℕ) → List Access → Type 0} {z : Abstract} {n pc x : ℕ} {r : List ℕ} {sp rs : ℕ} {mem : List (Option ℕ)} {l : List Access} (w : ℕ)
+pub constant-0 : {array : ℕ → Bool} {code : List ℕ} {Q : ℕ → List (Option ℕ) → List Access → Type 0} {z : Abstract} {n pc x : ℕ} {r : List ℕ} {sp rs : ℕ} {mem : List (Option ℕ)}
+    {l : List Access} (w : ℕ)
     → At code pc (load-constant 0 w) → w < 4294967296 → Q sp mem l → Path array code Q z n (machine (advance (load-constant 0 w) pc) (w ∷ r) sp w mem l)
     → Path array code Q z (and-then (load-constant 0 w) n) (machine pc (x ∷ r) sp rs mem l)
 constant-0 w at h q p = loads-constant 0 w (omega arith) at h q p
 
-pub constant-1 : {array : ℕ → Bool} {code : List ℕ} {Q : ℕ → List (Option ℕ) → List Access → Type 0} {z : Abstract} {n pc x y : ℕ} {r : List ℕ} {sp rs : ℕ} {mem : List (Option ℕ)} {l : List Access} (w : ℕ)
+pub constant-1 : {array : ℕ → Bool} {code : List ℕ} {Q : ℕ → List (Option ℕ) → List Access → Type 0} {z : Abstract} {n pc x y : ℕ} {r : List ℕ} {sp rs : ℕ} {mem : List (Option ℕ)}
+    {l : List Access} (w : ℕ)
     → At code pc (load-constant 1 w) → w < 4294967296 → Q sp mem l → Path array code Q z n (machine (advance (load-constant 1 w) pc) (x ∷ w ∷ r) sp w mem l)
     → Path array code Q z (and-then (load-constant 1 w) n) (machine pc (x ∷ y ∷ r) sp rs mem l)
 constant-1 w at h q p = loads-constant 1 w (omega arith) at h q p
 
-pub constant-2 : {array : ℕ → Bool} {code : List ℕ} {Q : ℕ → List (Option ℕ) → List Access → Type 0} {z : Abstract} {n pc x y v : ℕ} {r : List ℕ} {sp rs : ℕ} {mem : List (Option ℕ)} {l : List Access} (w : ℕ)
+pub constant-2 : {array : ℕ → Bool} {code : List ℕ} {Q : ℕ → List (Option ℕ) → List Access → Type 0} {z : Abstract} {n pc x y v : ℕ} {r : List ℕ} {sp rs : ℕ}
+    {mem : List (Option ℕ)} {l : List Access} (w : ℕ)
     → At code pc (load-constant 2 w) → w < 4294967296 → Q sp mem l → Path array code Q z n (machine (advance (load-constant 2 w) pc) (x ∷ y ∷ w ∷ r) sp w mem l)
     → Path array code Q z (and-then (load-constant 2 w) n) (machine pc (x ∷ y ∷ v ∷ r) sp rs mem l)
 constant-2 w at h q p = loads-constant 2 w (omega arith) at h q p

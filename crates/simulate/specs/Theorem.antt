@@ -140,7 +140,8 @@ module _ (p : Program) (sound : Sound p) (short : length (image p) ≤ 65536) (m
     unfolding runFrom
     run-more k e = rw e
 
-    run-last : (k : ℕ) → effect-at E x .after .state .status ≡ 1 → runFrom (suc n) k (image p) (x .words) (x .state) ≡ run-after (ran (effect-at E x .after .state) (k + 1)) (effect-at E x .after .words)
+    run-last : (k : ℕ) → effect-at E x .after .state .status ≡ 1
+        → runFrom (suc n) k (image p) (x .words) (x .state) ≡ run-after (ran (effect-at E x .after .state) (k + 1)) (effect-at E x .after .words)
     unfolding runFrom
     run-last k e = let s = effect-at E x .after .state .status in rw (ne-eqb s 0 (omega arith), le-leb s 1 (omega arith))
 
@@ -203,13 +204,17 @@ module _ (p : Program) (sound : Sound p) (short : length (image p) ≤ 65536) (m
       let e = step-is x v in
       let l = lists ks (step-point E x) (later x v) in
       let one = tried-one x v in
-      before x a _ (step-point E x) (rw one (also none)) (record { not-refused = rw e (orderly x v .no-fault); counted = rw (one, e) (one-counted x v); kept = rw e (orderly x v .kept); ended = rw e (ended-here x v) }) (rw e l)
+      before x a _ (step-point E x) (rw one (also none))
+      (record { not-refused = rw e (orderly x v .no-fault); counted = rw (one, e) (one-counted x v); kept = rw e (orderly x v .kept); ended = rw e (ended-here x v) }) (rw e l)
   lists (run n ∷ ks) x v =
       let a = call (image p) (run n) (x .words) (x .state) in
       let e = run-is n x v in
       let r = runs n 0 x v in
       let l = lists ks (r .last) (chain-sees (r .chain) v) in
-      before x a _ (r .last) (r .chain) (record { not-refused = rw e (r .status); counted = rw e (r .count ∙ omega arith); kept = rw (e, r .words, r .state) (kept (r .last) (chain-sees (r .chain) v)); ended = rw e (r .ended) }) (rw (e, r .words, r .state) l)
+      before x a _ (r .last) (r .chain)
+      (record
+      { not-refused = rw e (r .status); counted = rw e (r .count ∙ omega arith); kept = rw (e, r .words, r .state) (kept (r .last) (chain-sees (r .chain) v)); ended = rw e (r .ended) })
+      (rw (e, r .words, r .state) l)
 
   -- ── for every number of moves ──
 
@@ -266,11 +271,15 @@ module _ (p : Program) (sound : Sound p) (short : length (image p) ≤ 65536) (m
   started-is = ap (λ (s : Started). s .machine) start-is
 
   seen : Sees (first-point p memory)
-  seen i = sees move (step-point E) state-size (Simulated E memory) (Seen E memory) (seen-back E memory) (simulates-point E (limits p sound short memory lent) memory) i (begin p memory) (first-point p memory) (first-simulated p sound short memory lent)
+  seen i =
+      sees move (step-point E) state-size (Simulated E memory) (Seen E memory) (seen-back E memory) (simulates-point E (limits p sound short memory lent) memory) i (begin p memory)
+      (first-point p memory) (first-simulated p sound short memory lent)
 
   reached : (j : ℕ) → (n : ℕ) × Simulated E memory (moves j (begin p memory)) (times (step-point E) n (first-point p memory))
   reached j =
-      let r = reaches move (step-point E) state-size (Simulated E memory) (Seen E memory) (seen-back E memory) (simulates-point E (limits p sound short memory lent) memory) j (begin p memory) (first-point p memory) (first-simulated p sound short memory lent) in
+      let r =
+      reaches move (step-point E) state-size (Simulated E memory) (Seen E memory) (seen-back E memory) (simulates-point E (limits p sound short memory lent) memory) j (begin p memory)
+      (first-point p memory) (first-simulated p sound short memory lent) in
       (r .0, rw moves-times at (r .1))
 
   all-lists : (ks : List Call) → Lists (first-point p memory) (called p memory ks)

@@ -20,7 +20,8 @@ use Rattle.program.specs.Tree.{Monadic, negate, invert, Diadic, plus, minus, ti
 use Rattle.meaning.specs.Operators.{work-monadic, work-diadic}
 use Rattle.rules.specs.Blocks.{less-than, far-shift, diadic-instructions}
 use Rattle.simulate.specs.Abstract.{registers, get, machine, performs, width}
-use Rattle.simulate.specs.Straight.{At, nil, _▸_, Holds, advance, head-at, first-at, rest-at, advance-append, Goes, Path, here, more, go, join, equal-taken, equal-passed, unequal-taken, unequal-passed}
+use Rattle.simulate.specs.Straight.{At, nil, _▸_, Holds, advance, head-at, first-at, rest-at, advance-append, Goes, Path, here, more, go, join, equal-taken, equal-passed, unequal-taken}
+use Rattle.simulate.specs.Straight.{unequal-passed}
 
 -- ── what the words come to ──
 
@@ -128,7 +129,8 @@ module _ {array : ℕ → Bool} {code : List ℕ} {pc sp rs : ℕ} {mem : List (
   difference i j u v f e e′ = go f (rw (e, e′))
 
 -- a run of some code that leaves v in r0, and what it likes in r1, r2, r3 and rs
-pub record Makes (array : ℕ → Bool) (code : List ℕ) (Q : ℕ → List (Option ℕ) → List Access → Type 0) (sp : ℕ) (mem : List (Option ℕ)) (l : List Access) (is : List Instr) (v pc x y c r3 rs : ℕ) : Type 0 where
+pub record Makes (array : ℕ → Bool) (code : List ℕ) (Q : ℕ → List (Option ℕ) → List Access → Type 0) (sp : ℕ) (mem : List (Option ℕ)) (l : List Access) (is : List Instr)
+    (v pc x y c r3 rs : ℕ) : Type 0 where
   pub a : ℕ
   pub b : ℕ
   pub d : ℕ
@@ -138,7 +140,8 @@ pub record Makes (array : ℕ → Bool) (code : List ℕ) (Q : ℕ → List (Opt
   pub path : Path array code Q (machine (advance is pc) (registers a b d e) sp f mem l) n (machine pc (registers x y c r3) sp rs mem l)
   pub value : a ≡ v
 
-module _ {array : ℕ → Bool} {code : List ℕ} {Q : ℕ → List (Option ℕ) → List Access → Type 0} {sp : ℕ} {mem : List (Option ℕ)} {l : List Access} (fits : length code ≤ 65536) (q : Q sp mem l) {pc x y c r3 rs : ℕ} where
+module _ {array : ℕ → Bool} {code : List ℕ} {Q : ℕ → List (Option ℕ) → List Access → Type 0} {sp : ℕ} {mem : List (Option ℕ)} {l : List Access} (fits : length code ≤ 65536)
+    (q : Q sp mem l) {pc x y c r3 rs : ℕ} where
   -- register i, which has u, below register j, which has v
   less-run : (i j u v : ℕ) → ((c d : ℕ) → get (registers x y c d) i ≡ u) → ((c d : ℕ) → get (registers x y c d) j ≡ v) → u < modulus → v < modulus
       → At code pc (less-than i j) → Makes array code Q sp mem l (less-than i j) (truth (signed-less u v)) pc x y c r3 rs
@@ -156,7 +159,8 @@ module _ {array : ℕ → Bool} {code : List ℕ} {Q : ℕ → List (Option ℕ)
             f = _;
             n = _;
             value = less-same hu hv h;
-            path = more q (sign-of (registers x y c r3) i u f₁ (gi c r3)) (more q (sign-of (registers x y (u / sign) r3) j v f₂ (gj (u / sign) r3)) (more q (go f₃ refl) (more q (unequal-passed fits f₄ z)
+            path = more q (sign-of (registers x y c r3) i u f₁ (gi c r3))
+                (more q (sign-of (registers x y (u / sign) r3) j v f₂ (gj (u / sign) r3)) (more q (go f₃ refl) (more q (unequal-passed fits f₄ z)
                 (more q (difference (registers x y (u / sign) (sub (u / sign) (v / sign))) i j u v f₅ (gi _ _) (gj _ _)) (more q (go f₆ refl) (more q (go f₇ refl) here))))));
           }
       by (no h) =

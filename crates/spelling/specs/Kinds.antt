@@ -1,5 +1,5 @@
 -- The kinds of tokens, by number. Definitions.
--- `true` and `false` are numbers, with their words. An operator's kind is 30 more than its number in the syntax table.
+-- `true` and `false` are numbers, with their words.
 use Prim.Native.Nat.{ℕ}
 
 -- a constant: a decimal, a hexadecimal, a byte literal, true or false; the token's value is its word
@@ -93,6 +93,10 @@ return = 27
 
 abbrev pub is : ℕ
 is = 28
+
+-- operators: an operator's kind is this much more than its number in the syntax table
+abbrev pub operator-base : ℕ
+operator-base = 30
 
 -- The syntax table: "Diadic from 1: + - * and or xor >> << = <> < <= > >="
 abbrev pub plus : ℕ

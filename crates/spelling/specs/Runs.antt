@@ -74,7 +74,8 @@ unfolding numeral
 numeral-cut base h [] a b e = e
 numeral-cut base h (x ∷ bs) a b e = go (digit base x) (numeral-cut base h bs (a * base + digit-value x) (b * base + digit-value x) (push-cut base a b (digit-value x) h e))
   where
-    go : (t : Bool) → min (numeral base bs (a * base + digit-value x)) 4294967296 ≡ min (numeral base bs (b * base + digit-value x)) 4294967296 → min (pick t (numeral base bs (a * base + digit-value x)) a) 4294967296 ≡ min (pick t (numeral base bs (b * base + digit-value x)) b) 4294967296
+    go : (t : Bool) → min (numeral base bs (a * base + digit-value x)) 4294967296 ≡ min (numeral base bs (b * base + digit-value x)) 4294967296
+        → min (pick t (numeral base bs (a * base + digit-value x)) a) 4294967296 ≡ min (pick t (numeral base bs (b * base + digit-value x)) b) 4294967296
     go true i = i
     go false i = e
 
@@ -109,11 +110,6 @@ same-equal (x ∷ a) (y ∷ b) e =
     let h = eqb-true x y p in
     let t = same-equal a b q in
     cc
-
-pub equal-same : (a : List ℕ) → same a a ≡ true
-unfolding same
-equal-same [] = refl
-equal-same (x ∷ a) = rw (eq-eqb x x refl) (equal-same a)
 
 -- a run is no longer than what it stands in
 pub span-length : (c : Class) (bs : List ℕ) → span c bs ≤ length bs

@@ -55,6 +55,9 @@ pub const RETURN: u8 = 27;
 
 pub const IS: u8 = 28;
 
+// An operator's kind is this much more than its number in the syntax table.
+pub const OPERATOR_BASE: u32 = 30;
+
 pub const PLUS: u8 = 31;
 
 pub const MINUS: u8 = 32;

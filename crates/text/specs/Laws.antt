@@ -11,7 +11,7 @@ use lib.Seq.{take-all, take-append-le, take-suc-set}
 use lib.Dec.{ltb}
 use Rattle.word.specs.Choice.{pick}
 use Rattle.word.specs.ChoiceLaws.{by-test}
-use Rattle.text.specs.Text.{fitted, digit, digits, decimal, entry, summary}
+use Rattle.text.specs.Text.{fitted, digit, digits, decimal, summary}
 
 -- what was cut off before is cut off after
 pub fitted-then : (xs ys : List ℕ) → fitted (fitted xs ++ ys) ≡ fitted (xs ++ ys)
@@ -90,9 +90,6 @@ pub joined : (l xs ys m n : List ℕ) → m ≡ fitted (l ++ xs) → n ≡ fitte
 joined l xs ys m n p q = q ∙ ap (λ (r : List ℕ). fitted (r ++ ys)) p ∙ fitted-then (l ++ xs) ys ∙ ap fitted (append-assoc l xs ys)
 
 -- ── the seven lines ──
-
-pub length-entry : (name : List ℕ) (n : ℕ) → length (entry name n) ≤ length name + 11
-length-entry name n = simp length-append (omega (arith, length-digits 9 n))
 
 -- they fit in a line
 pub summary-fits : (s p t r d n c : ℕ) → fitted (summary s p t r d n c) ≡ summary s p t r d n c

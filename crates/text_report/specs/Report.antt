@@ -1,16 +1,17 @@
 -- The report of a source, whole. Definitions; rests on the translation and the seven lines.
 use mathlib.Core.List.{List}
 use Prim.Native.Nat.{ℕ}
+use Rattle.program.specs.Layout.{table-room, code-room}
 use Rattle.text.specs.Text.{summary}
 use Rattle.translate.specs.declared.Translation.{Translation}
 use Rattle.translate.specs.Translate.{translation}
 
 -- Limits and refusals: "4 x tokens words" and "48 x tokens + 256 bytes" for 1,024 tokens, the most that a source may have: 13 and 14 never show
 abbrev pub table-words : ℕ
-table-words = 4096
+table-words = table-room 1024
 
 abbrev pub code-bytes : ℕ
-code-bytes = 49408
+code-bytes = code-room 1024
 
 -- The report program: "data= being D, depth= the deepest N, code= the image's bytes"
 abbrev pub answer-lines : Translation → List ℕ

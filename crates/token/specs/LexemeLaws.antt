@@ -17,6 +17,7 @@ use Rattle.spelling.specs.Characters.{one-of, character, within, letter, digit,
 use Rattle.spelling.specs.Words.{word, middle-word, late-word}
 use Rattle.token.specs.Lexemes.{at, spelled, named, number, escape-value, closed, hexadecimal-escape, escape, byte-literal, comment, single, double, symbol, lexeme}
 use Rattle.spelling.specs.Runs.{span-length}
+use Rattle.token.specs.Refusals as refusal
 use Rattle.spelling.specs.declared.Class.the-variants.{Name, Comment, Digit}
 use Rattle.spelling.specs.declared.Word.{Word}
 use Rattle.token.specs.declared.Lexeme.{Lexeme}
@@ -47,7 +48,7 @@ holds {ℓ} : {A : Type 0} (P : A → Type ℓ) (b : Bool) (x y : A) → (b ≡ 
 holds P true x y f g = f refl
 holds P false x y f g = g refl
 
-broken : (left : ℕ) → Good left (Broken 2)
+broken : (left : ℕ) → Good left (Broken refusal.broken-token)
 broken left = (omega arith, omega arith)
 
 inside : (s : List ℕ) (i k : ℕ) → getD s i 0 ≡ k → 0 < k → i < length s
@@ -98,17 +99,22 @@ double-none b = simp both-ways
 symbol-good : (b c left : ℕ) → 1 ≤ left → (¬ (c ≡ 0) → 2 ≤ left) → Good left (symbol b c)
 unfolding symbol
 symbol-good b c left one two =
-    holds (Good left) (eqb (double b c) 0) (pick (eqb (single b) 0) (Broken 2) (Token (single b) 1 0)) (Token (double b c) 2 0)
-    (λ e. holds (Good left) (eqb (single b) 0) (Broken 2) (Token (single b) 1 0) (λ f. broken left)
+    holds (Good left) (eqb (double b c) 0) (pick (eqb (single b) 0) (Broken refusal.broken-token) (Token (single b) 1 0)) (Token (double b c) 2 0)
+    (λ e. holds (Good left) (eqb (single b) 0) (Broken refusal.broken-token) (Token (single b) 1 0) (λ f. broken left)
     (λ f. record { some = omega arith; inside = one; matching = plain-matched 1 (single b) (single-plain 1 b) f; short = λ _. omega arith }))
-    (λ e. record { some = omega arith; inside = two (λ z. eqb-false (double b c) 0 e (ap (double b) z ∙ double-none b)); matching = plain-matched 2 (double b c) (double-plain 2 b c) e; short = λ _. omega arith })
+    (λ e. record {
+      some = omega arith;
+      inside = two (λ z. eqb-false (double b c) 0 e (ap (double b) z ∙ double-none b));
+      matching = plain-matched 2 (double b c) (double-plain 2 b c) e;
+      short = λ _. omega arith;
+    })
 
 -- comments and numbers
 
 comment-good : (bs : List ℕ) → Good (suc (length bs)) (comment bs)
 unfolding comment
 comment-good bs =
-    holds (Good (suc (length bs))) (eqb (at bs (span Comment bs)) 124) (Token kinds.comment (span Comment bs + 2) 0) (Broken 2)
+    holds (Good (suc (length bs))) (eqb (at bs (span Comment bs)) 124) (Token kinds.comment (span Comment bs + 2) 0) (Broken refusal.broken-token)
     (λ e. let h = inside bs (span Comment bs) 124 (eqb-true _ 124 e) (omega arith) in
     record { some = omega arith; inside = omega arith; matching = refl; short = λ n. omega arith })
     (λ e. broken (suc (length bs)))
@@ -122,9 +128,9 @@ number-good base limit before left bs h room =
     let n = span (Digit base) bs in
     let v = numeral base bs 0 in
     let l = span-length (Digit base) bs in
-    holds (Good left) (eqb n 0) (Broken 2) (pick (leb v limit) (Token kinds.number (before + n) v) (Broken 3)) (λ e. broken left)
+    holds (Good left) (eqb n 0) (Broken refusal.broken-token) (pick (leb v limit) (Token kinds.number (before + n) v) (Broken refusal.large-number)) (λ e. broken left)
     (λ e. let d = eqb-false n 0 e in
-    holds (Good left) (leb v limit) (Token kinds.number (before + n) v) (Broken 3)
+    holds (Good left) (leb v limit) (Token kinds.number (before + n) v) (Broken refusal.large-number)
     (λ f. let m = leb-true v limit f in number-token left (before + n) v (omega arith) (omega arith) (omega arith)) (λ f. (omega arith, omega arith)))
 
 -- byte literals
@@ -143,7 +149,8 @@ one-of-below m (x ∷ xs) b a e =
 
 letter-below : (b : ℕ) → letter b ≡ true → b < 256
 letter-below b e =
-    ⊎-elim (λ f. let h = leb-true b 122 (both (leb 97 b) (leb b 122) f .1) in omega arith) (λ f. let h = leb-true b 90 (both (leb 65 b) (leb b 90) f .1) in omega arith) (either (within 97 122 b) (within 65 90 b) e)
+    ⊎-elim (λ f. let h = leb-true b 122 (both (leb 97 b) (leb b 122) f .1) in omega arith) (λ f. let h = leb-true b 90 (both (leb 65 b) (leb b 90) f .1) in omega arith)
+    (either (within 97 122 b) (within 65 90 b) e)
 
 digit-below : (b : ℕ) → digit 10 b ≡ true → b < 256
 unfolding digit-value
@@ -176,7 +183,7 @@ escape-below b = search below-pick depth 30
 closed-good : (bs : List ℕ) (n v : ℕ) → v < 4294967296 → Good (length bs) (closed bs n v)
 unfolding closed
 closed-good bs n v h =
-    holds (Good (length bs)) (eqb (at bs n) 39) (Token kinds.number (n + 1) v) (Broken 2)
+    holds (Good (length bs)) (eqb (at bs n) 39) (Token kinds.number (n + 1) v) (Broken refusal.broken-token)
     (λ e. let i = inside bs n 39 (eqb-true _ 39 e) (omega arith) in number-token (length bs) (n + 1) v (omega arith) (omega arith) h) (λ e. broken (length bs))
 
 hexadecimal-good : (bs : List ℕ) → Good (length bs) (hexadecimal-escape bs)
@@ -184,8 +191,8 @@ unfolding hexadecimal-escape
 hexadecimal-good bs =
     let h = digit-value (at bs 3) in
     let l = digit-value (at bs 4) in
-    holds (Good (length bs)) (ltb h 16) (pick (ltb l 16) (closed bs 5 (h * 16 + l)) (Broken 2)) (Broken 2)
-    (λ e. holds (Good (length bs)) (ltb l 16) (closed bs 5 (h * 16 + l)) (Broken 2)
+    holds (Good (length bs)) (ltb h 16) (pick (ltb l 16) (closed bs 5 (h * 16 + l)) (Broken refusal.broken-token)) (Broken refusal.broken-token)
+    (λ e. holds (Good (length bs)) (ltb l 16) (closed bs 5 (h * 16 + l)) (Broken refusal.broken-token)
     (λ f. let p = ltb-true h 16 e in let q = ltb-true l 16 f in closed-good bs 5 (h * 16 + l) (omega arith)) (λ f. broken (length bs)))
     (λ e. broken (length bs))
 
@@ -193,15 +200,15 @@ escape-good : (bs : List ℕ) → Good (length bs) (escape bs)
 unfolding escape
 escape-good bs =
     let v = escape-value (at bs 2) in
-    holds (Good (length bs)) (eqb (at bs 2) 35) (hexadecimal-escape bs) (pick (eqb v 0) (Broken 2) (closed bs 3 v)) (λ e. hexadecimal-good bs)
-    (λ e. holds (Good (length bs)) (eqb v 0) (Broken 2) (closed bs 3 v) (λ f. broken (length bs))
+    holds (Good (length bs)) (eqb (at bs 2) 35) (hexadecimal-escape bs) (pick (eqb v 0) (Broken refusal.broken-token) (closed bs 3 v)) (λ e. hexadecimal-good bs)
+    (λ e. holds (Good (length bs)) (eqb v 0) (Broken refusal.broken-token) (closed bs 3 v) (λ f. broken (length bs))
     (λ f. let b = ltb-true v 256 (escape-below (at bs 2)) in closed-good bs 3 v (omega arith)))
 
 byte-literal-good : (bs : List ℕ) → Good (length bs) (byte-literal bs)
 unfolding byte-literal
 byte-literal-good bs =
-    holds (Good (length bs)) (eqb (at bs 1) 42) (escape bs) (pick (literal-character (at bs 1)) (closed bs 2 (at bs 1)) (Broken 2)) (λ e. escape-good bs)
-    (λ e. holds (Good (length bs)) (literal-character (at bs 1)) (closed bs 2 (at bs 1)) (Broken 2)
+    holds (Good (length bs)) (eqb (at bs 1) 42) (escape bs) (pick (literal-character (at bs 1)) (closed bs 2 (at bs 1)) (Broken refusal.broken-token)) (λ e. escape-good bs)
+    (λ e. holds (Good (length bs)) (literal-character (at bs 1)) (closed bs 2 (at bs 1)) (Broken refusal.broken-token)
     (λ f. let b = character-below (at bs 1) f in closed-good bs 2 (at bs 1) (omega arith)) (λ f. broken (length bs)))
 
 -- names
@@ -218,7 +225,7 @@ named-good b bs h =
     let l = span-length Name (b ∷ bs) in
     let one = some-name b bs h in
     let e : length w ≡ n = length-take-le n (b ∷ bs) l in
-    holds (Good (suc (length bs))) (leb n 32) (spelled n (word w)) (Broken 4)
+    holds (Good (suc (length bs))) (leb n 32) (spelled n (word w)) (Broken refusal.long-name)
     (λ f. let m = leb-true n 32 f in record { some = one; inside = l; matching = rw e at (word-matched w); short = λ _. m }) (λ f. (omega arith, omega arith))
 
 -- what stands at the front of any bytes

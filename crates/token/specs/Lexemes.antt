@@ -8,6 +8,7 @@ use Rattle.word.specs.Choice.{pick}
 use Rattle.spelling.specs.Kinds as kinds
 use Rattle.spelling.specs.Characters.{digit-value, letter, digit, separator, literal-character, span, numeral}
 use Rattle.spelling.specs.Words.{word}
+use Rattle.token.specs.Refusals as refusal
 use Rattle.spelling.specs.declared.Class.the-variants.{Name, Comment, Digit}
 use Rattle.spelling.specs.declared.Word.{Word}
 use Rattle.token.specs.declared.Lexeme.{Lexeme}
@@ -23,13 +24,13 @@ spelled n w = Token (w .kind) n (w .value)
 
 -- "names (a letter, then letters, digits, `_`)"; refusal 4: "name above 32 bytes"
 unfoldable pub named : List ℕ → Lexeme
-named bs = pick (leb (span Name bs) 32) (spelled (span Name bs) (word (take (span Name bs) bs))) (Broken 4)
+named bs = pick (leb (span Name bs) 32) (spelled (span Name bs) (word (take (span Name bs) bs))) (Broken refusal.long-name)
 
 -- "decimals, `#` and hex digits of either case"; refusal 3: "decimal above 2,147,483,647 or hex above FFFFFFFF"; the digits are bs, after `before` bytes
 unfoldable pub number : ℕ → ℕ → ℕ → List ℕ → Lexeme
 number base limit before bs =
-    pick (eqb (span (Digit base) bs) 0) (Broken 2)
-    (pick (leb (numeral base bs 0) limit) (Token kinds.number (before + span (Digit base) bs) (numeral base bs 0)) (Broken 3))
+    pick (eqb (span (Digit base) bs) 0) (Broken refusal.broken-token)
+    (pick (leb (numeral base bs 0) limit) (Token kinds.number (before + span (Digit base) bs) (numeral base bs 0)) (Broken refusal.large-number))
 
 -- "an escape: `*c` 13, `*n` 10, `*t` 9, `*s` 32, `*'` 39, `*"` 34, `**` 42"; 0 for any other byte
 unfoldable pub escape-value : ℕ → ℕ
@@ -44,27 +45,27 @@ escape-value b =
 
 -- a byte literal whose closing quote should stand at n
 unfoldable pub closed : List ℕ → ℕ → ℕ → Lexeme
-closed bs n value = pick (eqb (at bs n) 39) (Token kinds.number (n + 1) value) (Broken 2)
+closed bs n value = pick (eqb (at bs n) 39) (Token kinds.number (n + 1) value) (Broken refusal.broken-token)
 
 -- "`*#` and two hex digits"
 unfoldable pub hexadecimal-escape : List ℕ → Lexeme
 hexadecimal-escape bs =
-    pick (digit 16 (at bs 3)) (pick (digit 16 (at bs 4)) (closed bs 5 (digit-value (at bs 3) * 16 + digit-value (at bs 4))) (Broken 2)) (Broken 2)
+    pick (digit 16 (at bs 3)) (pick (digit 16 (at bs 4)) (closed bs 5 (digit-value (at bs 3) * 16 + digit-value (at bs 4))) (Broken refusal.broken-token)) (Broken refusal.broken-token)
 
 unfoldable pub escape : List ℕ → Lexeme
 escape bs =
     pick (eqb (at bs 2) 35) (hexadecimal-escape bs)
-    (pick (eqb (escape-value (at bs 2)) 0) (Broken 2) (closed bs 3 (escape-value (at bs 2))))
+    (pick (eqb (escape-value (at bs 2)) 0) (Broken refusal.broken-token) (closed bs 3 (escape-value (at bs 2))))
 
 -- "A byte literal is one X character other than `*`, `'`, `"`, or an escape"; the opening quote stands first
 unfoldable pub byte-literal : List ℕ → Lexeme
 byte-literal bs =
     pick (eqb (at bs 1) 42) (escape bs)
-    (pick (literal-character (at bs 1)) (closed bs 2 (at bs 1)) (Broken 2))
+    (pick (literal-character (at bs 1)) (closed bs 2 (at bs 1)) (Broken refusal.broken-token))
 
 -- "A comment runs from `|` to the next `|`, any other bytes inside"; bs follow the first `|`
 unfoldable pub comment : List ℕ → Lexeme
-comment bs = pick (eqb (at bs (span Comment bs)) 124) (Token kinds.comment (span Comment bs + 2) 0) (Broken 2)
+comment bs = pick (eqb (at bs (span Comment bs)) 124) (Token kinds.comment (span Comment bs + 2) 0) (Broken refusal.broken-token)
 
 -- the kind of `:= <> <= >= << >>`, 0 for any other two bytes
 unfoldable pub double : ℕ → ℕ → ℕ
@@ -95,7 +96,7 @@ single b =
 unfoldable pub symbol : ℕ → ℕ → Lexeme
 symbol b c =
     pick (eqb (double b c) 0)
-    (pick (eqb (single b) 0) (Broken 2) (Token (single b) 1 0))
+    (pick (eqb (single b) 0) (Broken refusal.broken-token) (Token (single b) 1 0))
     (Token (double b c) 2 0)
 
 -- "Tokens, longest first: names, decimals, `#` and hex digits, byte literals, comments" and the symbols

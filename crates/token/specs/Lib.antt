@@ -1,4 +1,5 @@
--- The tokens of a source: what stands at the front of a byte string, the token list and its laws.
+-- The tokens of a source: the refusals' numbers, what stands at the front of a byte string, the token list and its laws.
+pub mod Refusals
 pub mod Lexemes
 pub mod Tokens
 pub mod Split

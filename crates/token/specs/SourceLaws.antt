@@ -1,18 +1,19 @@
 -- What later passes rest on: each token of a source lies in it, kinds and values go together, places ascend; what a refusal's number and place can be.
 -- Claims and laws. Rests on Tokens and LexemeLaws.
-use mathlib.Core.Path.{_≡_, sym, subst}
+use mathlib.Core.Path.{_≡_, subst}
 use mathlib.Core.Bool.{Bool, true, false}
 use mathlib.Core.List.{List, [], _∷_}
 use Prim.Native.Nat.{ℕ, zero, suc, _+_, _-_, _<_, _≤_}
 use native.Mathlib.Omega.{arith}
 use lib.Dec.{eqb, leb, ltb}
-use lib.ListN.{length, getD}
-use borrow.Author.Tests.{ne-eqb, eqb-true, eqb-false, leb-true, ltb-true}
+use lib.ListN.{length}
+use borrow.Author.Tests.{ne-eqb, eqb-true, leb-true, ltb-true}
 use Rattle.word.specs.Choice.{pick}
 use Rattle.word.specs.ChoiceLaws.{by-test, both}
 use Rattle.spelling.specs.Kinds as kinds
+use Rattle.token.specs.Refusals as refusal
 use Rattle.token.specs.Lexemes.{lexeme}
-use Rattle.token.specs.Tokens.{Entry, Outcome, read, refused, also, taken, scan, outcome, entries}
+use Rattle.token.specs.Tokens.{Entry, Outcome, read, refused, also, taken, scan, outcome}
 use Rattle.token.specs.LexemeLaws.{known, matched, Fits, Good, lexeme-good}
 use Rattle.token.specs.declared.Lexeme.{Lexeme}
 use Rattle.token.specs.declared.Lexeme.the-variants.{Separator, Token, Broken}
@@ -75,7 +76,7 @@ sound-taken : (size p c : ℕ) (l : Lexeme) (rest : ℕ → ℕ → Outcome) →
 sound-taken size p c Separator rest m h g r = sound-earlier size p (p + 1) (rest 0 c) (omega arith) (r 0 c)
 sound-taken size p c (Broken n) rest m h g r = (omega arith, omega arith, omega arith, omega arith)
 sound-taken size p c (Token k n v) rest m h g r =
-    by-test (λ (b : Bool). Sound size p (pick b (refused 5 p) (also (record { kind = k; place = p; value = v }) (rest (n - 1) (c + 1))))) (leb 1024 c)
+    by-test (λ (b : Bool). Sound size p (pick b (refused refusal.many-tokens p) (also (record { kind = k; place = p; value = v }) (rest (n - 1) (c + 1))))) (leb 1024 c)
     (λ _. (omega arith, omega arith, omega arith, omega arith)) (λ _. sound-also size (record { kind = k; place = p; value = v }) (rest (n - 1) (c + 1)) (lies size p k n v h g) (r (n - 1) (c + 1)))
 
 sound-scan : (size : ℕ) → size ≤ 16384 → (bs : List ℕ) (k p c : ℕ) → p + length bs ≡ size → Sound size p (scan bs k p c)
@@ -89,33 +90,5 @@ sound-scan size m (b ∷ bs) zero p c h =
 -- every outcome is sound: the tokens lie in the source at ascending places, a refusal's number is 1 to 5 and its place in the source, at most 16,384
 pub outcome-sound : (s : List ℕ) → Sound (length s) 0 (outcome s)
 unfolding outcome
-outcome-sound s = by-test (λ (b : Bool). Sound (length s) 0 (pick b (scan s 0 0 0) (refused 1 0))) (leb (length s) 16384) (λ e. sound-scan (length s) (leb-true (length s) 16384 e) s 0 0 0 (omega arith)) (λ _. (omega arith, omega arith, omega arith, omega arith))
-
--- the same of the token arrays
-module _ (ks ps vs : List ℕ) where
-  abbrev pub entry : ℕ → Entry
-  entry i = record { kind = getD ks i 0; place = getD ps i 0; value = getD vs i 0 }
-
-  placed-at : (size : ℕ) (n i p k : ℕ) → Placed size p (entries ks ps vs i n) → i ≤ k → k < i + n → (p ≤ getD ps k 0) × Lies size (entry k)
-  unfolding entries
-  placed-at size zero i p k h a b = absurd (omega arith)
-  placed-at size (suc n) i p k (some t g l r) a b =
-      by-test (λ _. (p ≤ getD ps k 0) × Lies size (entry k)) (eqb k i)
-      (λ e. subst (λ (j : ℕ). (p ≤ getD ps j 0) × Lies size (entry j)) (sym (eqb-true k i e)) (g, l))
-      (λ e. let ne = eqb-false k i e in let (q, t) = placed-at size n (suc i) (getD ps i 0 + 1) k r (omega arith) (omega arith) in (omega arith, t))
-
-  -- each token lies in the source
-  pub lies-at : (s : List ℕ) (n k : ℕ) → outcome s ≡ read (entries ks ps vs 0 n) → k < n → Lies (length s) (entry k)
-  lies-at s n k e h = placed-at (length s) n 0 0 k (subst (Sound (length s) 0) e (outcome-sound s)) (omega arith) (omega arith) .1
-
-  ascend-from : (size : ℕ) (n i p j k : ℕ) → Placed size p (entries ks ps vs i n) → i ≤ j → j < k → k < i + n → getD ps j 0 < getD ps k 0
-  unfolding entries
-  ascend-from size zero i p j k h a b c = absurd (omega arith)
-  ascend-from size (suc n) i p j k (some t g l r) a b c =
-      by-test (λ _. getD ps j 0 < getD ps k 0) (eqb j i)
-      (λ e. subst (λ (x : ℕ). getD ps x 0 < getD ps k 0) (sym (eqb-true j i e)) (let z = eqb-true j i e in let q = placed-at size n (suc i) (getD ps i 0 + 1) k r (omega arith) (omega arith) .0 in omega arith))
-      (λ e. let ne = eqb-false j i e in ascend-from size n (suc i) (getD ps i 0 + 1) j k r (omega arith) b (omega arith))
-
-  -- places ascend
-  pub ascending : (s : List ℕ) (n j k : ℕ) → outcome s ≡ read (entries ks ps vs 0 n) → j < k → k < n → getD ps j 0 < getD ps k 0
-  ascending s n j k e a b = ascend-from (length s) n 0 0 j k (subst (Sound (length s) 0) e (outcome-sound s)) (omega arith) a (omega arith)
+outcome-sound s = by-test (λ (b : Bool). Sound (length s) 0 (pick b (scan s 0 0 0) (refused refusal.long-source 0))) (leb (length s) 16384)
+    (λ e. sound-scan (length s) (leb-true (length s) 16384 e) s 0 0 0 (omega arith)) (λ _. (omega arith, omega arith, omega arith, omega arith))

@@ -7,6 +7,7 @@ use lib.ListN.{drop}
 use Rattle.word.specs.Choice.{pick}
 use Rattle.spelling.specs.Kinds as kinds
 use Rattle.spelling.specs.Characters.{letter, digit, span, numeral}
+use Rattle.token.specs.Refusals as refusal
 use Rattle.spelling.specs.declared.Class.the-variants.{Name, Digit}
 use Rattle.token.specs.Lexemes.{at, lexeme}
 use Rattle.token.specs.Tokens.{Entry}
@@ -37,7 +38,7 @@ unlimited bs =
 abbrev pub marked : Lexeme → Unlimited → ℕ → (ℕ → Split) → Split
 marked Separator u p rest = rest 0
 marked (Token k n v) u p rest = next (record { kind = k; place = p; value = v }) 0 (rest (n - 1))
-marked (Broken n) u p rest = pick (eqb n 2) (broken p) (next (record { kind = u .kind; place = p; value = u .value }) n (rest (u .size - 1)))
+marked (Broken n) u p rest = pick (eqb n refusal.broken-token) (broken p) (next (record { kind = u .kind; place = p; value = u .value }) n (rest (u .size - 1)))
 
 -- the bytes from place p on, the first `skip` of which a token has taken already
 unfoldable pub split-from : List ℕ → ℕ → ℕ → Split
@@ -55,7 +56,7 @@ pub data AllTokens : Split → List Entry → Type 0 where
 
 -- a refusal among 2 to 4, by number, and its place
 pub data Flaw : Split → ℕ → ℕ → Type 0 where
-  no-token : {p : ℕ} → Flaw (broken p) 2 p
+  no-token : {p : ℕ} → Flaw (broken p) refusal.broken-token p
   here : {t : Entry} {k : ℕ} {s : Split} → Flaw (next t k s) k (t .place)
   later : {t : Entry} {k n p : ℕ} {s : Split} → Flaw s n p → Flaw (next t k s) n p
 

@@ -10,6 +10,7 @@ use lib.ListN.{length}
 use borrow.Author.Tests.{eqb-true, leb-true, leb-false}
 use Rattle.word.specs.Choice.{pick}
 use Rattle.word.specs.ChoiceLaws.{by-test}
+use Rattle.token.specs.Refusals as refusal
 use Rattle.token.specs.Lexemes.{lexeme}
 use Rattle.token.specs.LexemeLaws.{Good, lexeme-good}
 use Rattle.token.specs.Tokens.{Entry, Outcome, read, refused, also, taken, scan}
@@ -136,7 +137,7 @@ module _ (left p c : ℕ) (u : Unlimited) (next-outcome : ℕ → ℕ → Outcom
   agree-taken (Token k n v) g =
       let t : Entry = record { kind = k; place = p; value = v } in
       let s = next-split (n - 1) in
-      by-test (λ (b : Bool). Agrees c (next t 0 s) (pick b (refused 5 p) (also t (next-outcome (n - 1) (c + 1))))) (leb 1024 c)
+      by-test (λ (b : Bool). Agrees c (next t 0 s) (pick b (refused refusal.many-tokens p) (also t (next-outcome (n - 1) (c + 1))))) (leb 1024 c)
       (λ e. let l = leb-true 1024 c e in (by-count there (omega arith), first 5 (past (n - 1)) (λ z. absurd (omega arith)) (omega arith)))
       (λ e. let l : c < 1024 = leb-false 1024 c e in agree-also c t s (next-outcome (n - 1) (c + 1)) l (agree (n - 1) (c + 1) (omega arith)))
   agree-taken (Broken n) g =

@@ -11,6 +11,7 @@ use borrow.Author.Tests.{le-leb, lt-leb}
 use Rattle.token.specs.Lexemes.{lexeme}
 use Rattle.token.specs.Tokens.{Entry, Outcome, read, refused, also, taken, scan, outcome, entries}
 use Rattle.spelling.specs.Runs.{drop-one}
+use Rattle.token.specs.Refusals as refusal
 use Rattle.token.specs.LexemeLaws.{Fits, Good, lexeme-good}
 use Rattle.token.specs.declared.Lexeme.{Lexeme}
 use Rattle.token.specs.declared.Lexeme.the-variants.{Separator, Token, Broken}
@@ -57,7 +58,7 @@ module _ (s : List ℕ) (i c : ℕ) (h : i < length s) where
   step-broken l n e q = scan-step (Broken n) (sym q ∙ e)
 
   module _ (l : Lexeme) (k n v : ℕ) (e : l ≡ lexeme (drop i s)) (q : l ≡ Token k n v) where
-    pub step-full : 1024 ≤ c → scan (drop i s) 0 i c ≡ refused 5 i
+    pub step-full : 1024 ≤ c → scan (drop i s) 0 i c ≡ refused refusal.many-tokens i
     step-full f = scan-step (Token k n v) (sym q ∙ e) ∙ rw (le-leb 1024 c f)
 
     -- the token's bytes stand in the source
@@ -96,6 +97,6 @@ pub outcome-short : (s : List ℕ) → length s ≤ 16384 → outcome s ≡ scan
 unfolding outcome
 outcome-short s h = rw (le-leb (length s) 16384 h)
 
-pub outcome-long : (s : List ℕ) → 16384 < length s → outcome s ≡ refused 1 0
+pub outcome-long : (s : List ℕ) → 16384 < length s → outcome s ≡ refused refusal.long-source 0
 unfolding outcome
 outcome-long s h = rw (lt-leb (length s) 16384 h)

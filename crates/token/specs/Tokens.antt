@@ -5,6 +5,7 @@ use Prim.Native.Nat.{ℕ, zero, suc, _+_, _-_, _≤_}
 use lib.Dec.{leb}
 use lib.ListN.{length, getD}
 use Rattle.word.specs.Choice.{pick}
+use Rattle.token.specs.Refusals as refusal
 use Rattle.token.specs.Lexemes.{lexeme}
 use Rattle.token.specs.declared.Lexeme.{Lexeme}
 use Rattle.token.specs.declared.Lexeme.the-variants.{Separator, Token, Broken}
@@ -33,7 +34,7 @@ abbrev pub taken : Lexeme → ℕ → ℕ → (ℕ → ℕ → Outcome) → Outc
 taken Separator p count rest = rest 0 count
 taken (Broken n) p count rest = refused n p
 taken (Token k n v) p count rest =
-    pick (leb 1024 count) (refused 5 p)
+    pick (leb 1024 count) (refused refusal.many-tokens p)
     (also (record { kind = k; place = p; value = v }) (rest (n - 1) (count + 1)))
 
 -- the bytes from place p on, the first `skip` of which a token has taken already, after `count` tokens
@@ -44,7 +45,7 @@ scan (b ∷ bs) zero p count = taken (lexeme (b ∷ bs)) p count (λ n c. scan b
 
 -- Limits and refusals: "1 comes first; then 2 to 5"; refusal 1: "source above 16,384 bytes", place 0
 unfoldable pub outcome : List ℕ → Outcome
-outcome source = pick (leb (length source) 16384) (scan source 0 0 0) (refused 1 0)
+outcome source = pick (leb (length source) 16384) (scan source 0 0 0) (refused refusal.long-source 0)
 
 -- n entries of the token arrays from i on, as tokens
 unfoldable pub entries : List ℕ → List ℕ → List ℕ → ℕ → ℕ → List Entry

@@ -1,4 +1,6 @@
 // The tokens of X: a source's bytes to token arrays, or the refusal among 1 to 5.
+pub mod refusal;
+
 ghost use mathlib.Core.Path.{_≡_};
 ghost use Prim.Native.Nat.{_<_, _≤_};
 ghost use lib.ListN.{length, drop};
@@ -38,7 +40,7 @@ fn named(s: &[u8], i: usize) -> Lexeme
         let found = word_of(&s[i..end]);
         Lexeme::Token(found.kind, n, found.value)
     } else {
-        Lexeme::Broken(4)
+        Lexeme::Broken(refusal::LONG_NAME)
     }
 }
 
@@ -49,13 +51,13 @@ fn number(s: &[u8], base: u64, limit: u32, before: usize, i: usize) -> Lexeme
 {
     let n = span(s, Class::Digit(base), i);
     if n == 0 {
-        return Lexeme::Broken(2);
+        return Lexeme::Broken(refusal::BROKEN_TOKEN);
     }
     let value = numeral(s, base, i);
     if value <= limit as u64 {
         return Lexeme::Token(kind::NUMBER, before + n, value as u32);
     }
-    Lexeme::Broken(3)
+    Lexeme::Broken(refusal::LARGE_NUMBER)
 }
 
 fn escape_value(b: u8) -> u8
@@ -80,7 +82,7 @@ fn closed(s: &[u8], i: usize, n: usize, value: u32) -> Lexeme
     if byte(s, i, n) == b'\'' {
         return Lexeme::Token(kind::NUMBER, n + 1, value);
     }
-    Lexeme::Broken(2)
+    Lexeme::Broken(refusal::BROKEN_TOKEN)
 }
 
 fn hexadecimal_escape(s: &[u8], i: usize) -> Lexeme
@@ -92,9 +94,9 @@ fn hexadecimal_escape(s: &[u8], i: usize) -> Lexeme
         if low < 16 {
             return closed(s, i, 5, high * 16 + low);
         }
-        return Lexeme::Broken(2);
+        return Lexeme::Broken(refusal::BROKEN_TOKEN);
     }
-    Lexeme::Broken(2)
+    Lexeme::Broken(refusal::BROKEN_TOKEN)
 }
 
 fn escape(s: &[u8], i: usize) -> Lexeme
@@ -106,7 +108,7 @@ fn escape(s: &[u8], i: usize) -> Lexeme
     }
     let value = escape_value(b);
     if value == 0 {
-        return Lexeme::Broken(2);
+        return Lexeme::Broken(refusal::BROKEN_TOKEN);
     }
     closed(s, i, 3, value as u32)
 }
@@ -121,7 +123,7 @@ fn byte_literal(s: &[u8], i: usize) -> Lexeme
     if literal_character(b) {
         return closed(s, i, 2, b as u32);
     }
-    Lexeme::Broken(2)
+    Lexeme::Broken(refusal::BROKEN_TOKEN)
 }
 
 fn comment(s: &[u8], i: usize) -> Lexeme
@@ -132,7 +134,7 @@ fn comment(s: &[u8], i: usize) -> Lexeme
     if byte(s, i, n) == b'|' {
         return Lexeme::Token(kind::COMMENT, n + 2, 0);
     }
-    Lexeme::Broken(2)
+    Lexeme::Broken(refusal::BROKEN_TOKEN)
 }
 
 fn double(b: u8, c: u8) -> u8
@@ -188,7 +190,7 @@ fn symbol(b: u8, c: u8) -> Lexeme
     if two == 0 {
         let one = single(b);
         if one == 0 {
-            return Lexeme::Broken(2);
+            return Lexeme::Broken(refusal::BROKEN_TOKEN);
         }
         return Lexeme::Token(one, 1, 0);
     }
@@ -241,7 +243,7 @@ fn scan(source: &[u8], kinds: &mut [u8], places: &mut [u32], values: &mut [u32])
             }
             Lexeme::Token(kind, length, value) => {
                 if 1024 <= n {
-                    return Scanned::Refused(5, i);
+                    return Scanned::Refused(refusal::MANY_TOKENS, i);
                 }
                 kinds[n] = kind;
                 places[n] = i as u32;
@@ -266,7 +268,7 @@ pub fn tokens(
     ensures few { λ r. ⌜ Few r ⌝ }
 {
     if 16384 < source.len() {
-        return Scanned::Refused(1, 0);
+        return Scanned::Refused(refusal::LONG_SOURCE, 0);
     }
     scan(source, kinds, places, values)
 }

@@ -5,6 +5,7 @@ use Prim.Native.Nat.{ℕ, _+_, _-_, _*_, _≤_, _<_}
 use native.Mathlib.Omega.{arith}
 use lib.ListN.{length, take, drop, replicate, length-append, length-drop}
 use lib.Seq.{getD-take, length-take-le, ext-getD, take-at}
+use Rattle.program.specs.Layout.{row-words}
 use Rattle.program.specs.Tree.{Program, data-words}
 use Rattle.program.specs.Depth.{deepest}
 use Rattle.program.specs.Rows.{table-of, row-count}
@@ -22,7 +23,7 @@ use Rattle.translate.specs.Room.{Fits, accepted-fits}
 held : (t xs : List ℕ) (n : ℕ) → length xs ≡ n → n ≤ length t → Holds t 0 xs → take n t ≡ xs
 held t xs n e l h =
     let k = length-take-le n t l in
-    ext-getD 0 (take n t) xs (k ∙ sym e) (λ i b. let b′ : i < n = omega (arith, k) in let z : 4 * 0 + i ≡ i = omega arith in getD-take n t i 0 b′ ∙ (rw z at (h .at i (omega (arith, e)))))
+    ext-getD 0 (take n t) xs (k ∙ sym e) (λ i b. let b′ : i < n = omega (arith, k) in let z : row-words * 0 + i ≡ i = omega arith in getD-take n t i 0 b′ ∙ (rw z at (h .at i (omega (arith, e)))))
 
 -- rows copied, and the rest zeroed
 pub filled-table : (rows table xs : List ℕ) (n : ℕ) → length xs ≡ n → n ≤ length rows → n ≤ length table → Holds rows 0 xs
@@ -42,7 +43,8 @@ pub record Parts (rows : List ℕ) (table code tokens count words depth : ℕ) (
   pub depth-is : depth ≡ deepest (q .body)
 
 -- what the front end found are such parts
-pub found-parts : (source rows : List ℕ) (table code tokens count words depth : ℕ) (f : Found (front source table code) rows tokens count words depth) → Parts rows table code tokens count words depth (f .tree)
+pub found-parts : (source rows : List ℕ) (table code tokens count words depth : ℕ) (f : Found (front source table code) rows tokens count words depth)
+    → Parts rows table code tokens count words depth (f .tree)
 found-parts source rows table code tokens count words depth f = record {
   sound = accepted-sound source table code tokens (f .tree) (f .outcome);
   fits = accepted-fits source table code tokens (f .tree) (f .outcome);

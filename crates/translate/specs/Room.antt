@@ -4,11 +4,15 @@ use mathlib.Core.List.{List, [], _∷_}
 use Prim.Native.Nat.{ℕ, suc, _+_, _*_, _-_, _≤_}
 use native.Mathlib.Omega.{arith}
 use lib.ListN.{length}
+use Rattle.spelling.specs.Kinds as kind
 use Rattle.token.specs.Tokens.{Entry}
-use Rattle.grammar.specs.Grammar.{Token, mark, Expression, single, monadic, diadic, Chain, last, more, Operand, element, bracketed, Process, skip, stop, assign, assign-element, empty, braces, conditional, while, after-comment, Processes, only, followed, Program, program, text-expression, text-chain, text-operand, text-process, text-processes, text-program}
+use Rattle.grammar.specs.Grammar.{Token, mark, Expression, single, monadic, diadic, Chain, last, more, Operand, element, bracketed, Process, skip, stop, assign, assign-element, empty, braces}
+use Rattle.grammar.specs.Grammar.{conditional, while, after-comment, Processes, only, followed, Program, program, text-expression, text-chain, text-operand, text-process, text-processes}
+use Rattle.grammar.specs.Grammar.{text-program}
 use Rattle.grammar.specs.Grammar as grammar
 use Rattle.program.specs.Tree as tree
 use Rattle.grammar.specs.FewRows.{few-P, few-Ss}
+use Rattle.program.specs.Layout.{row-words, code-room}
 use Rattle.program.specs.Rows.{row-count}
 use Rattle.front.specs.Symbols.{symbols, text-of, place-of}
 use Rattle.front.specs.Front.{accepted, front}
@@ -64,8 +68,8 @@ module _ (text : ℕ → List ℕ) (s : Scope) where
     tokens-O : (a : Operand) (w : List Token) → tokens-of (resolve.operand text a s) + length w ≤ length (text-operand a w)
     tokens-O (grammar.constant v) w = omega arith
     tokens-O (grammar.variable n) w = omega (arith, value-tokens (meaning-of text s n))
-    tokens-O (element n e) w = omega (arith, element-tokens (meaning-of text s n) (resolve.expression text e s), tokens-E e (mark 7 ∷ w))
-    tokens-O (bracketed e) w = omega (arith, tokens-E e (mark 5 ∷ w))
+    tokens-O (element n e) w = omega (arith, element-tokens (meaning-of text s n) (resolve.expression text e s), tokens-E e (mark kind.close-subscript ∷ w))
+    tokens-O (bracketed e) w = omega (arith, tokens-E e (mark kind.close-bracket ∷ w))
 
   mutual
     tokens-P : (p : Process) (w : List Token) → process-tokens (resolve.process text p s) + length w ≤ length (text-process p w)
@@ -73,21 +77,27 @@ module _ (text : ℕ → List ℕ) (s : Scope) where
     tokens-P stop w = omega arith
     tokens-P (assign n e) w = omega (arith, assigned-tokens (meaning-of text s n) (resolve.expression text e s), tokens-E e w)
     tokens-P (assign-element n i e) w =
-        omega (arith, stored-tokens (meaning-of text s n) (resolve.expression text i s) (resolve.expression text e s), tokens-E i (mark 7 ∷ mark 12 ∷ text-expression e w), tokens-E e w)
+        omega (
+          arith,
+          stored-tokens (meaning-of text s n) (resolve.expression text i s) (resolve.expression text e s),
+          tokens-E i (mark kind.close-subscript ∷ mark kind.becomes ∷ text-expression e w),
+          tokens-E e w,
+        )
     tokens-P empty w = omega arith
-    tokens-P (braces ps) w = omega (arith, tokens-L ps (mark 9 ∷ w))
+    tokens-P (braces ps) w = omega (arith, tokens-L ps (mark kind.close-brace ∷ w))
     tokens-P (conditional e p q) w =
-        omega (arith, tokens-E e (mark 19 ∷ text-process p (mark 20 ∷ text-process q w)), tokens-P p (mark 20 ∷ text-process q w), tokens-P q w)
-    tokens-P (while e p) w = omega (arith, tokens-E e (mark 22 ∷ text-process p w), tokens-P p w)
+        omega (arith, tokens-E e (mark kind.then ∷ text-process p (mark kind.else ∷ text-process q w)), tokens-P p (mark kind.else ∷ text-process q w), tokens-P q w)
+    tokens-P (while e p) w = omega (arith, tokens-E e (mark kind.do-word ∷ text-process p w), tokens-P p w)
     tokens-P (after-comment p) w = omega (arith, tokens-P p w)
 
     tokens-L : (ps : Processes) (w : List Token) → list-tokens (resolve.processes text ps s) + length w ≤ length (text-processes ps w)
     tokens-L (only p) w = omega (arith, tokens-P p w)
-    tokens-L (followed p ps) w = omega (arith, tokens-P p (mark 10 ∷ text-processes ps w), tokens-L ps w)
+    tokens-L (followed p ps) w = omega (arith, tokens-P p (mark kind.semicolon ∷ text-processes ps w), tokens-L ps w)
 
 module _ (text : ℕ → List ℕ) where
   -- no more rows than tokens, and the image's own tokens are among them
-  pub rows-and-tokens : (place : ℕ → ℕ) (p : Program) → complaints text place p ≡ [] → (row-count (resolve.resolve text p) ≤ length (text-program p)) × (process-tokens (resolve.resolve text p .body) ≤ length (text-program p))
+  pub rows-and-tokens : (place : ℕ → ℕ) (p : Program) → complaints text place p ≡ []
+      → (row-count (resolve.resolve text p) ≤ length (text-program p)) × (process-tokens (resolve.resolve text p .body) ≤ length (text-program p))
   unfolding row-count
   rows-and-tokens place (program ds p) h =
       let s = declare-all text ds empty-scope in
@@ -100,9 +110,9 @@ pub record Fits (table code : ℕ) (n : ℕ) (q : tree.Program) : Type 0 where
   pub rows : row-count q ≤ n
   pub tokens : process-tokens (q .body) ≤ n
   pub few : n ≤ 1024
-  pub in-table : 4 * row-count q ≤ table
+  pub in-table : row-words * row-count q ≤ table
   pub in-code : length (image q) ≤ code
-  pub small : length (image q) ≤ 49408
+  pub small : length (image q) ≤ code-room 1024
 
 length-symbols : (ts : List Entry) (i : ℕ) → length (symbols ts i) ≡ length ts
 unfolding symbols

@@ -5,11 +5,13 @@ use buffers::clear_bytes;
 use buffers::clear_words;
 use buffers::copy_words;
 use generate::image;
+use program::row;
 ghost use mathlib.Core.Path.{_≡_};
 ghost use mathlib.Core.List.{List};
 ghost use Prim.Native.Nat.{ℕ, _-_, _*_, _<_, _≤_};
 ghost use lib.ListN.{length};
 ghost use Rattle.program.specs.Tree as tree;
+ghost use Rattle.program.specs.Layout.{«row-words»};
 ghost use Rattle.program.specs.Rows.{«table-of», «row-count»};
 ghost use Rattle.program.specs.ReadBack.{Holds};
 ghost use Rattle.program.specs.Sound.{Sound};
@@ -51,17 +53,18 @@ fn refuse(table: &mut [u32], code: &mut [u8], number: u32, place: u32) -> Transl
 
 // The first rows into the lent table, the rest of which is zeroed.
 fn fill_table(rows: &[u32], count: usize, table: &mut [u32])
-    requires { ⌜ (count ≤ 1024) × ((4 * count ≤ length (now rows)) × (4 * count ≤ length (now table))) ⌝ }
-    ensures { λ _. ⌜ ((xs : List ℕ) → length xs ≡ 4 * count → Holds (now (rows .entry)) 0 xs → now (table .exit) ≡ filled (length (now (table .entry))) xs) ⌝ }
+    requires { ⌜ (count ≤ 1024) × ((«row-words» * count ≤ length (now rows)) × («row-words» * count ≤ length (now table))) ⌝ }
+    ensures { λ _. ⌜ ((xs : List ℕ) → length xs ≡ «row-words» * count → Holds (now (rows .entry)) 0 xs → now (table .exit) ≡ filled (length (now (table .entry))) xs) ⌝ }
 {
-    copy_words(rows, table, 4 * count);
-    clear_words(table, 4 * count);
+    copy_words(rows, table, row::WORDS * count);
+    clear_words(table, row::WORDS * count);
 }
 
 // The image of the rows into the lent code buffer, the rest of which is zeroed.
 fn fill_code(rows: &[u32], count: usize, code: &mut [u8]) -> usize
     requires { ⌜ (0 < count) × (WellProcess (now rows) (count - 1) × Room (now code) 0 (rules.«image-code» («process-at» (now rows) (count - 1)))) ⌝ }
-    ensures { λ r. ⌜ ((q : tree.Program) → Sound q → Holds (now (rows .entry)) 0 («table-of» q) → count ≡ «row-count» q → length (rules.image q) ≤ length (now (code .entry)) → (now (code .exit) ≡ filled (length (now (code .entry))) (rules.image q)) × (r ≡ length (rules.image q))) ⌝ }
+    ensures { λ r. ⌜ ((q : tree.Program) → Sound q → Holds (now (rows .entry)) 0 («table-of» q) → count ≡ «row-count» q → length (rules.image q) ≤ length (now (code .entry))
+        → (now (code .exit) ≡ filled (length (now (code .entry))) (rules.image q)) × (r ≡ length (rules.image q))) ⌝ }
 {
     let end = image(rows, count, code);
     clear_bytes(code, end);
@@ -79,7 +82,8 @@ fn accept(
     code: &mut [u8],
 ) -> Translation
     requires { ⌜ (length (now rows) ≡ 4096) × ((q : tree.Program) × Parts (now rows) (length (now table)) (length (now code)) tokens count words depth q) ⌝ }
-    ensures { λ r. ⌜ ((q : tree.Program) → Parts (now (rows .entry)) (length (now (table .entry))) (length (now (code .entry))) tokens count words depth q → left r (now (table .exit)) (now (code .exit)) ≡ translated (length (now (table .entry))) (length (now (code .entry))) (front.accepted tokens q)) ⌝ }
+    ensures { λ r. ⌜ ((q : tree.Program) → Parts (now (rows .entry)) (length (now (table .entry))) (length (now (code .entry))) tokens count words depth q
+        → left r (now (table .exit)) (now (code .exit)) ≡ translated (length (now (table .entry))) (length (now (code .entry))) (front.accepted tokens q)) ⌝ }
 {
     fill_table(rows, count, table);
     let end = fill_code(rows, count, code);
@@ -105,7 +109,8 @@ fn accept_rows(
     code: &mut [u8],
 ) -> Translation
     requires { ⌜ ((q : tree.Program) × Parts (now rows) (length (now table)) (length (now code)) tokens count words depth q) ⌝ }
-    ensures { λ r. ⌜ ((q : tree.Program) → Parts (now (rows .entry)) (length (now (table .entry))) (length (now (code .entry))) tokens count words depth q → left r (now (table .exit)) (now (code .exit)) ≡ translated (length (now (table .entry))) (length (now (code .entry))) (front.accepted tokens q)) ⌝ }
+    ensures { λ r. ⌜ ((q : tree.Program) → Parts (now (rows .entry)) (length (now (table .entry))) (length (now (code .entry))) tokens count words depth q
+        → left r (now (table .exit)) (now (code .exit)) ≡ translated (length (now (table .entry))) (length (now (code .entry))) (front.accepted tokens q)) ⌝ }
 {
     accept(rows, tokens, count, words, depth, table, code)
 }

@@ -4,6 +4,8 @@ use mathlib.Core.List.{List, [], _∷_, _++_}
 use Prim.Native.Nat.{ℕ, _+_, _*_, _≤_, _<_}
 use native.Mathlib.Omega.{arith}
 use lib.ListN.{length}
+use Rattle.program.specs.Layout.{row-words}
+use Rattle.program.specs.Layout as layout
 use Rattle.thumb.specs.declared.Instr.{Instr}
 use Rattle.thumb.specs.declared.Instr.the-variants.{Svc}
 use Rattle.program.specs.Table.{word, monadic-of, diadic-of, expression-at, process-at}
@@ -25,7 +27,7 @@ module _ {low high : ℕ} {t : List ℕ} {r : ℕ} (h : Well low high t r) where
   pub named : {l m s : ℕ} → Earlier l m t r s → Well l m t s
   named q = record { inside = omega (arith, h .inside, q .earlier); from = q .from; to = q .to; names = λ k b. h .names k (omega (arith, q .earlier)) }
 
-  pub declared : {d : ℕ} → Declared t r d → 4 * d + 4 ≤ length t
+  pub declared : {d : ℕ} → Declared t r d → row-words * d + row-words ≤ length t
   declared q = omega (arith, h .inside, q .earlier)
 
   pub offset-small : {d : ℕ} {v : Row} → v ≡ row-in t d → Declared t r d → v .a ≤ 8192
@@ -50,43 +52,43 @@ module _ {low high : ℕ} {t : List ℕ} {r : ℕ} (h : Well low high t r) where
     kind-is q = ap (λ (x : Row). x .kind) (sym e) ∙ q
 
     -- ── expressions ──
-    pub constant-code : w .kind ≡ 3 → expression-in t r ≡ push-constant (w .a)
+    pub constant-code : w .kind ≡ layout.number → expression-in t r ≡ push-constant (w .a)
     unfolding expression-code
     constant-code q = ap expression-code (at-constant t r (kind-is q)) ∙ rw e refl
 
-    pub variable-names : w .kind ≡ 4 → Declared t r (w .a)
+    pub variable-names : w .kind ≡ layout.variable → Declared t r (w .a)
     unfolding Names
     variable-names q = rw e (rw (kind-is q) at names)
 
-    pub variable-code : {v : Row} → v ≡ row-in t (w .a) → w .kind ≡ 4 → expression-in t r ≡ push-variable (v .a)
+    pub variable-code : {v : Row} → v ≡ row-in t (w .a) → w .kind ≡ layout.variable → expression-in t r ≡ push-variable (v .a)
     unfolding expression-code
     variable-code d q = ap expression-code (at-variable t r (kind-is q)) ∙ rw (d, e) refl
 
-    pub element-names : w .kind ≡ 5 → Declared t r (w .a) × Expression t r (w .b)
+    pub element-names : w .kind ≡ layout.element → Declared t r (w .a) × Expression t r (w .b)
     unfolding Names
     element-names q = rw e (rw (kind-is q) at names)
 
-    pub element-code : {v : Row} → v ≡ row-in t (w .a) → w .kind ≡ 5 → expression-in t r ≡ expression-in t (w .b) ++ (check-subscript (v .b) ++ load-element (v .a))
+    pub element-code : {v : Row} → v ≡ row-in t (w .a) → w .kind ≡ layout.element → expression-in t r ≡ expression-in t (w .b) ++ (check-subscript (v .b) ++ load-element (v .a))
     unfolding expression-code
     element-code d q =
         let n : word t r 2 < r = rw e at (element-names q .1 .earlier) in
         ap expression-code (at-element t r (kind-is q) n) ∙ rw (d, e) refl
 
-    pub monadic-names : w .kind ≡ 6 → Expression t r (w .b)
+    pub monadic-names : w .kind ≡ layout.monadic → Expression t r (w .b)
     unfolding Names
     monadic-names q = rw e (rw (kind-is q) at names)
 
-    pub monadic-code : w .kind ≡ 6 → expression-in t r ≡ expression-in t (w .b) ++ work-monadic-code (monadic-of (w .a))
+    pub monadic-code : w .kind ≡ layout.monadic → expression-in t r ≡ expression-in t (w .b) ++ work-monadic-code (monadic-of (w .a))
     unfolding expression-code
     monadic-code q =
         let n : word t r 2 < r = rw e at (monadic-names q .earlier) in
         ap expression-code (at-monadic t r (kind-is q) n) ∙ rw e refl
 
-    pub diadic-names : w .kind ≡ 7 → Expression t r (w .b) × Expression t r (w .c)
+    pub diadic-names : w .kind ≡ layout.diadic → Expression t r (w .b) × Expression t r (w .c)
     unfolding Names
     diadic-names q = rw e (rw (kind-is q) at names)
 
-    pub diadic-code : w .kind ≡ 7 → expression-in t r ≡ expression-in t (w .b) ++ (expression-in t (w .c) ++ work-diadic-code (diadic-of (w .a)))
+    pub diadic-code : w .kind ≡ layout.diadic → expression-in t r ≡ expression-in t (w .b) ++ (expression-in t (w .c) ++ work-diadic-code (diadic-of (w .a)))
     unfolding expression-code
     diadic-code q =
         let n : word t r 2 < r = rw e at (diadic-names q .0 .earlier) in
@@ -94,19 +96,19 @@ module _ {low high : ℕ} {t : List ℕ} {r : ℕ} (h : Well low high t r) where
         ap expression-code (at-diadic t r (kind-is q) n m) ∙ rw e refl
 
     -- ── processes ──
-    pub skip-code : w .kind ≡ 8 → process-in t r ≡ []
+    pub skip-code : w .kind ≡ layout.skip → process-in t r ≡ []
     unfolding process-code
     skip-code q = ap process-code (at-skip t r (kind-is q))
 
-    pub stop-code : w .kind ≡ 9 → process-in t r ≡ Svc 1 ∷ []
+    pub stop-code : w .kind ≡ layout.stop → process-in t r ≡ Svc 1 ∷ []
     unfolding process-code
     stop-code q = ap process-code (at-stop t r (kind-is q))
 
-    pub sequence-names : w .kind ≡ 12 → Process t r (w .a) × Process t r (w .b)
+    pub sequence-names : w .kind ≡ layout.sequence → Process t r (w .a) × Process t r (w .b)
     unfolding Names
     sequence-names q = rw e (rw (kind-is q) at names)
 
-    pub sequence-code : w .kind ≡ 12 → process-in t r ≡ process-in t (w .a) ++ process-in t (w .b)
+    pub sequence-code : w .kind ≡ layout.sequence → process-in t r ≡ process-in t (w .a) ++ process-in t (w .b)
     unfolding process-code
     sequence-code q =
         let n : word t r 1 < r = rw e at (sequence-names q .0 .earlier) in
@@ -118,7 +120,7 @@ single : {k : ℕ} {t : List ℕ} {r : ℕ} → Well k k t r → word t r 0 ≡ 
 single h = omega (arith, h .from, h .to)
 
 -- ── assign ──
-module _ {t : List ℕ} {r : ℕ} {w : Row} (h : Well 10 10 t r) (e : w ≡ row-in t r) where
+module _ {t : List ℕ} {r : ℕ} {w : Row} (h : Well layout.assign layout.assign t r) (e : w ≡ row-in t r) where
   pub assign-names : Declared t r (w .a) × Expression t r (w .b)
   unfolding Names
   assign-names = rw e (rw (single h) at (names h))
@@ -128,7 +130,7 @@ module _ {t : List ℕ} {r : ℕ} {w : Row} (h : Well 10 10 t r) (e : w ≡ row-
   assign-code d = ap process-code (at-assign t r (single h)) ∙ rw (d, e) refl
 
 -- ── assign element ──
-module _ {t : List ℕ} {r : ℕ} {w : Row} (h : Well 11 11 t r) (e : w ≡ row-in t r) where
+module _ {t : List ℕ} {r : ℕ} {w : Row} (h : Well layout.assign-element layout.assign-element t r) (e : w ≡ row-in t r) where
   pub assign-element-names : Declared t r (w .a) × Expression t r (w .b) × Expression t r (w .c)
   unfolding Names
   assign-element-names = rw e (rw (single h) at (names h))
@@ -139,7 +141,7 @@ module _ {t : List ℕ} {r : ℕ} {w : Row} (h : Well 11 11 t r) (e : w ≡ row-
   assign-element-code d = ap process-code (at-assign-element t r (single h)) ∙ rw (d, e) refl
 
 -- ── if ──
-module _ {t : List ℕ} {r : ℕ} {w : Row} (h : Well 13 13 t r) (e : w ≡ row-in t r) where
+module _ {t : List ℕ} {r : ℕ} {w : Row} (h : Well layout.if layout.if t r) (e : w ≡ row-in t r) where
   pub conditional-names : Expression t r (w .a) × Process t r (w .b) × Process t r (w .c)
   unfolding Names
   conditional-names = rw e (rw (single h) at (names h))
@@ -152,7 +154,7 @@ module _ {t : List ℕ} {r : ℕ} {w : Row} (h : Well 13 13 t r) (e : w ≡ row-
       ap process-code (at-conditional t r (single h) n m) ∙ rw e refl
 
 -- ── while ──
-module _ {t : List ℕ} {r : ℕ} {w : Row} (h : Well 14 14 t r) (e : w ≡ row-in t r) where
+module _ {t : List ℕ} {r : ℕ} {w : Row} (h : Well layout.while layout.while t r) (e : w ≡ row-in t r) where
   pub loop-names : Expression t r (w .a) × Process t r (w .b)
   unfolding Names
   loop-names = rw e (rw (single h) at (names h))

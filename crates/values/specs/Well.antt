@@ -5,6 +5,8 @@ use Prim.Native.Nat.{ℕ, _+_, _*_, _≤_, _<_}
 use lib.ListN.{length}
 use lib.Dec.{eqb}
 use Rattle.word.specs.Choice.{pick}
+use Rattle.program.specs.Layout.{row-words}
+use Rattle.program.specs.Layout as layout
 use Rattle.program.specs.Table.{word}
 use Rattle.values.specs.declared.Row.{Row}
 
@@ -25,39 +27,40 @@ pub record Earlier (low high : ℕ) (t : List ℕ) (r s : ℕ) : Type 0 where
 
 -- "3 number [to] 7 diadic" are the expressions, "8 skip [to] 14 while" the processes
 abbrev pub Expression : List ℕ → ℕ → ℕ → Type 0
-Expression = Earlier 3 7
+Expression = Earlier layout.number layout.diadic
 
 abbrev pub Process : List ℕ → ℕ → ℕ → Type 0
-Process = Earlier 8 14
+Process = Earlier layout.skip layout.while
 
--- The syntax table: "4 variable (its row); 5 element (array row, subscript row); 6 monadic (operator, row); 7 diadic (operator, left, right); 10 assign (var row, value); 11 assign element (array row, subscript, value); 12 two in sequence; 13 if (condition, then, else); 14 while (condition, body)"
+-- The syntax table: "4 variable (its row); 5 element (array row, subscript row); 6 monadic (operator, row); 7 diadic (operator, left, right); 10 assign (var row, value); 11 assign element
+-- (array row, subscript, value); 12 two in sequence; 13 if (condition, then, else); 14 while (condition, body)"
 unfoldable pub Names : List ℕ → ℕ → Type 0
 Names t r =
-    pick (eqb (word t r 0) 4) (Declared t r (word t r 1))
-    (pick (eqb (word t r 0) 5) (Declared t r (word t r 1) × Expression t r (word t r 2))
-    (pick (eqb (word t r 0) 6) (Expression t r (word t r 2))
-    (pick (eqb (word t r 0) 7) (Expression t r (word t r 2) × Expression t r (word t r 3))
-    (pick (eqb (word t r 0) 10) (Declared t r (word t r 1) × Expression t r (word t r 2))
-    (pick (eqb (word t r 0) 11) (Declared t r (word t r 1) × Expression t r (word t r 2) × Expression t r (word t r 3))
-    (pick (eqb (word t r 0) 12) (Process t r (word t r 1) × Process t r (word t r 2))
-    (pick (eqb (word t r 0) 13) (Expression t r (word t r 1) × Process t r (word t r 2) × Process t r (word t r 3))
-    (pick (eqb (word t r 0) 14) (Expression t r (word t r 1) × Process t r (word t r 2))
+    pick (eqb (word t r 0) layout.variable) (Declared t r (word t r 1))
+    (pick (eqb (word t r 0) layout.element) (Declared t r (word t r 1) × Expression t r (word t r 2))
+    (pick (eqb (word t r 0) layout.monadic) (Expression t r (word t r 2))
+    (pick (eqb (word t r 0) layout.diadic) (Expression t r (word t r 2) × Expression t r (word t r 3))
+    (pick (eqb (word t r 0) layout.assign) (Declared t r (word t r 1) × Expression t r (word t r 2))
+    (pick (eqb (word t r 0) layout.assign-element) (Declared t r (word t r 1) × Expression t r (word t r 2) × Expression t r (word t r 3))
+    (pick (eqb (word t r 0) layout.sequence) (Process t r (word t r 1) × Process t r (word t r 2))
+    (pick (eqb (word t r 0) layout.if) (Expression t r (word t r 1) × Process t r (word t r 2) × Process t r (word t r 3))
+    (pick (eqb (word t r 0) layout.while) (Expression t r (word t r 1) × Process t r (word t r 2))
     (Unit {0})))))))))
 
 -- row r is in the table, its kind is from `low` to `high`, and it and all rows before it name what they should
 pub record Well (low high : ℕ) (t : List ℕ) (r : ℕ) : Type 0 where
-  pub inside : 4 * r + 4 ≤ length t
+  pub inside : row-words * r + row-words ≤ length t
   pub from : low ≤ word t r 0
   pub to : word t r 0 ≤ high
   pub names : (s : ℕ) → s ≤ r → Names t s
 
 -- a row that the walk takes for an expression, for a process
 abbrev pub WellExpression : List ℕ → ℕ → Type 0
-WellExpression = Well 3 7
+WellExpression = Well layout.number layout.diadic
 
 abbrev pub WellProcess : List ℕ → ℕ → Type 0
-WellProcess = Well 8 14
+WellProcess = Well layout.skip layout.while
 
 -- one that is no sequence
 abbrev pub WellSingle : List ℕ → ℕ → Type 0
-WellSingle t r = WellProcess t r × (word t r 0 ≡ 12 → ⊥)
+WellSingle t r = WellProcess t r × (word t r 0 ≡ layout.sequence → ⊥)

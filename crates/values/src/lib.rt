@@ -2,9 +2,12 @@
 ghost use mathlib.Core.Path.{_≡_};
 ghost use Prim.Native.Nat.{_+_, _*_, _≤_};
 ghost use lib.ListN.{length};
+ghost use Rattle.program.specs.Layout as layout;
+ghost use Rattle.program.specs.Layout.{row-words};
 ghost use Rattle.instructions.specs.Write.{Room, Wrote};
 ghost use Rattle.values.specs.Well.{row-in, Well, WellExpression};
 ghost use Rattle.values.specs.Walk.{expression-in, process-in};
+use program::row;
 
 pub struct Row {
     pub kind: u32,
@@ -14,14 +17,14 @@ pub struct Row {
 }
 
 pub fn read_row(table: &[u32], r: usize) -> Row
-    requires { ⌜ 4 * r + 4 ≤ length (now table) ⌝ }
+    requires { ⌜ row-words * r + row-words ≤ length (now table) ⌝ }
     ensures { λ w. ⌜ w ≡ row-in (now (table .entry)) r ⌝ }
 {
     Row {
-        kind: table[4 * r],
-        a: table[4 * r + 1],
-        b: table[4 * r + 2],
-        c: table[4 * r + 3],
+        kind: table[row::WORDS * r],
+        a: table[row::WORDS * r + 1],
+        b: table[row::WORDS * r + 2],
+        c: table[row::WORDS * r + 3],
     }
 }
 
@@ -32,20 +35,20 @@ pub fn expression(table: &[u32], code: &mut [u8], r: usize, at: usize) -> usize
 {
     let w = read_row(table, r);
     let kind = w.kind;
-    if kind == 3 {
+    if kind == row::NUMBER {
         return emit::push_constant(code, at, w.a);
     }
-    if kind == 4 {
+    if kind == row::VARIABLE {
         let v = read_row(table, w.a as usize);
         return emit::push_variable(code, at, v.a);
     }
-    if kind == 5 {
+    if kind == row::ELEMENT {
         let v = read_row(table, w.a as usize);
         let a1 = expression(table, code, w.b as usize, at);
         let a2 = emit::check_subscript(code, a1, v.b);
         return emit::load_element(code, a2, v.a);
     }
-    if kind == 6 {
+    if kind == row::MONADIC {
         let a1 = expression(table, code, w.b as usize, at);
         return operators::monadic(code, a1, w.a);
     }
@@ -56,7 +59,7 @@ pub fn expression(table: &[u32], code: &mut [u8], r: usize, at: usize) -> usize
 
 // Row r assigns to a variable.
 pub fn assign(table: &[u32], code: &mut [u8], r: usize, at: usize) -> usize
-    requires { ⌜ Well 10 10 (now table) r × Room (now code) at (process-in (now table) r) ⌝ }
+    requires { ⌜ Well layout.assign layout.assign (now table) r × Room (now code) at (process-in (now table) r) ⌝ }
     ensures { λ j. ⌜ Wrote (now (code .entry)) at (process-in (now (table .entry)) r) (now (code .exit)) j ⌝ }
 {
     let w = read_row(table, r);
@@ -67,7 +70,7 @@ pub fn assign(table: &[u32], code: &mut [u8], r: usize, at: usize) -> usize
 
 // Row r assigns to an element.
 pub fn assign_element(table: &[u32], code: &mut [u8], r: usize, at: usize) -> usize
-    requires { ⌜ Well 11 11 (now table) r × Room (now code) at (process-in (now table) r) ⌝ }
+    requires { ⌜ Well layout.assign-element layout.assign-element (now table) r × Room (now code) at (process-in (now table) r) ⌝ }
     ensures { λ j. ⌜ Wrote (now (code .entry)) at (process-in (now (table .entry)) r) (now (code .exit)) j ⌝ }
 {
     let w = read_row(table, r);

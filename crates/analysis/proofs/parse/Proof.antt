@@ -24,13 +24,15 @@ pub parse-spec : {M : Type 1} → statement M
 parse-spec =
     tie.close
     (tie.spec
-    (λ c κs. search needs)
-    (λ c. search needs)
-    (λ c. search needs)
-    (λ c κs. search needs)
-    (λ c. search needs)
-    (λ c. search needs)
+    (search needs) (search needs) (search needs) (search needs) (search needs) (search needs)
     read-requires
-    (λ c. let a = c .before .before .before .before .before .before .before .before .before .before .args in let q = c .before .before .before .before .before .before .before .before .before .before .pre in λ o. recognized-bad (a .source .now) (a .kinds .now) (a .places .now) (a .values .now) (q .1 .1 .0) (q .1 .1 .1 .0) (c .before .before .i .given .0 .0) _ (subst (λ (r : Recognized). Says (length (a .kinds .now)) (reads (unread (a .kinds .now) (a .values .now) 0)) r) (c .before .before .i .given .1) (c .before .before .before .before .recognize .ensures .0 (a .values .now))) (c .place-of .ensures))
-    (λ c. let a = c .before .before .before .before .before .before .before .before .args in let q = c .before .before .before .before .before .before .before .before .pre in let s = subst (λ (r : Recognized). Says (length (a .kinds .now)) (reads (unread (a .kinds .now) (a .values .now) 0)) r) (c .enum-told .given .1) (c .before .before .recognize .ensures .0 (a .values .now)) in λ o. deep-program (a .source .now) (a .kinds .now) (a .places .now) (a .values .now) (q .1 .1 .0) (q .1 .1 .1 .0) (s .0) (s .1) (s .2))
-    (λ c. search needs))
+    (λ c. let recognize = c .before .before .before .before .recognize in let a = c .before .before .before .before .before .before .before .before .before .before .args in
+    let q = c .before .before .before .before .before .before .before .before .before .before .pre in
+    λ o. recognized-bad (a .source .now) (a .kinds .now) (a .places .now) (a .values .now) (q .1 .1 .0) (q .1 .1 .1 .0) (c .before .before .i .given .0 .0) _
+    (subst (λ (r : Recognized). Says (length (a .kinds .now)) (reads (unread (a .kinds .now) (a .values .now) 0)) r) (c .before .before .i .given .1)
+    (recognize .ensures .0 (a .values .now))) (c .place-of .ensures))
+    (λ c. let a = c .before .before .before .before .before .before .before .before .args in let q = c .before .before .before .before .before .before .before .before .pre in
+    let s = subst (λ (r : Recognized). Says (length (a .kinds .now)) (reads (unread (a .kinds .now) (a .values .now) 0)) r) (c .enum-told .given .1)
+    (c .before .before .recognize .ensures .0 (a .values .now)) in
+    λ o. deep-program (a .source .now) (a .kinds .now) (a .places .now) (a .values .now) (q .1 .1 .0) (q .1 .1 .1 .0) (s .0) (s .1) (s .2))
+    (search needs))

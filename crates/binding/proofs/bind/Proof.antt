@@ -7,7 +7,7 @@ use native.Mathlib.Omega.{arith}
 use mathlib.Core.Path.{_≡_, sym, ap, subst, _∙_}
 use mathlib.Core.List.{List, []}
 use Prim.Native.Nat.{ℕ, _+_, _-_, _<_, _≤_}
-use lib.ListN.{length}
+use lib.ListN.{length, replicate, length-replicate}
 use Rattle.grammar.specs.Grammar.{Specification, Process, text-process, text-specifications}
 use Rattle.grammar.specs.Tokens.{unread}
 use Rattle.name_table.specs.View.{arrays}
@@ -17,15 +17,38 @@ use Rattle.binding.proofs.bind.Statement.{statement}
 use Rattle.binding.proofs.bind.Tie as tie
 
 abbrev Inv-loop : tie.InvT-loop
-Inv-loop source kinds places values sources₀ lengths₀ rows₀ sorts₀ words₀ sizes₀ table₀ start i₀ names₀ made₀ used₀ sources lengths rows sorts words sizes table i names made used = (made ≤ names) × (names ≤ 256) × (used ≤ 8192) × ((ds : List Specification) (b : Process) → unread kinds values 0 ≡ text-specifications ds (text-process b []) → start ≡ length kinds - length (text-process b []) → Going source kinds places values ds b table₀ (arrays sources lengths rows sorts words sizes) table i names made used)
+Inv-loop source kinds places values places₀ lengths₀ rows₀ sorts₀ words₀ table₀ start i₀ names₀ made₀ used₀ name-places name-lengths name-rows sorts words table i names made used =
+    (made ≤ names) × (names ≤ 256) × (used ≤ 8192)
+    × ((sizes : List ℕ) × (256 ≤ length sizes)
+    × ((ds : List Specification) (b : Process) → unread kinds values 0 ≡ text-specifications ds (text-process b []) → start ≡ length kinds - length (text-process b [])
+    → Going source kinds places values ds b table₀ (arrays name-places name-lengths name-rows sorts words sizes) table i names made used))
 
 abbrev μ-loop : tie.MeasureT-loop
-μ-loop source kinds places values sources₀ lengths₀ rows₀ sorts₀ words₀ sizes₀ table₀ start i₀ names₀ made₀ used₀ sources lengths rows sorts words sizes table i names made used = start - i
+μ-loop source kinds places values places₀ lengths₀ rows₀ sorts₀ words₀ table₀ start i₀ names₀ made₀ used₀ name-places name-lengths name-rows sorts words table i names made used = start - i
 
 loop-again-2 : tie.Need-loop-again-2 Inv-loop μ-loop
-loop-again-2 c = let a = c .before .before .before .before .before .before .before .before .before .before .before .before .before .before .before .before .before .before .before .before .args in let l = c .before .before .before .before .before .before .before .before .before .before .before .before .before .before .before .loop in let v = l .inv in let n = (subst (λ (x : Progress). Enters (a .source .now) (a .kinds .now) (a .places .now) (a .values .now) (scope-of (a .source .now) (arrays (l .sources) (l .lengths) (l .rows) (l .sorts) (l .words) (l .sizes)) (l .names) (l .made) (l .used)) (l .i) (arrays (l .sources) (l .lengths) (l .rows) (l .sorts) (l .words) (l .sizes)) (arrays (c .before .before .before .before .declare .last .1 .1 .1 .1 .0) (c .before .before .before .before .declare .last .1 .1 .1 .1 .1 .0) (c .before .before .before .before .declare .last .1 .1 .1 .1 .1 .1 .0) (c .before .before .before .before .declare .last .1 .1 .1 .1 .1 .1 .1 .0) (c .before .before .before .before .declare .last .1 .1 .1 .1 .1 .1 .1 .1 .0) (c .before .before .before .before .declare .last .1 .1 .1 .1 .1 .1 .1 .1 .1 .0)) (l .table) (c .before .before .before .before .declare .last .1 .1 .1 .1 .1 .1 .1 .1 .1 .1 .0) x) (c .before .before .r2 .given .1) (c .before .before .before .before .declare .ensures)) in
-    let r = entered-room (a .source .now) (a .kinds .now) (a .places .now) (a .values .now) (scope-of (a .source .now) (arrays (l .sources) (l .lengths) (l .rows) (l .sorts) (l .words) (l .sizes)) (l .names) (l .made) (l .used)) (l .i) (arrays (l .sources) (l .lengths) (l .rows) (l .sorts) (l .words) (l .sizes)) (arrays (c .before .before .before .before .declare .last .1 .1 .1 .1 .0) (c .before .before .before .before .declare .last .1 .1 .1 .1 .1 .0) (c .before .before .before .before .declare .last .1 .1 .1 .1 .1 .1 .0) (c .before .before .before .before .declare .last .1 .1 .1 .1 .1 .1 .1 .0) (c .before .before .before .before .declare .last .1 .1 .1 .1 .1 .1 .1 .1 .0) (c .before .before .before .before .declare .last .1 .1 .1 .1 .1 .1 .1 .1 .1 .0)) (l .table) (c .before .before .before .before .declare .last .1 .1 .1 .1 .1 .1 .1 .1 .1 .1 .0) (c .before .before .r2 .given .0 .0) (c .before .before .r2 .given .0 .1 .0) (c .before .before .r2 .given .0 .1 .1 .0) n (v .0) in
-    (r .0, r .1, r .2, λ ds b h st. subst (λ (w : ℕ). Going (a .source .now) (a .kinds .now) (a .places .now) (a .values .now) ds b (a .table .now) (arrays (c .before .before .before .before .declare .last .1 .1 .1 .1 .0) (c .before .before .before .before .declare .last .1 .1 .1 .1 .1 .0) (c .before .before .before .before .declare .last .1 .1 .1 .1 .1 .1 .0) (c .before .before .before .before .declare .last .1 .1 .1 .1 .1 .1 .1 .0) (c .before .before .before .before .declare .last .1 .1 .1 .1 .1 .1 .1 .1 .0) (c .before .before .before .before .declare .last .1 .1 .1 .1 .1 .1 .1 .1 .1 .0)) (c .before .before .before .before .declare .last .1 .1 .1 .1 .1 .1 .1 .1 .1 .1 .0) (l .i + w) (c .before .before .r2 .given .0 .0) (c .before .before .r2 .given .0 .1 .0) (c .before .before .r2 .given .0 .1 .1 .0)) (sym (c .width .ensures ∙ ap judging.width (c .before .before .before .before .before .before .before .before .before .before .before .before .before .kind-at .ensures))) (going-on (a .source .now) (a .kinds .now) (a .places .now) (a .values .now) ds b (a .table .now) (arrays (l .sources) (l .lengths) (l .rows) (l .sorts) (l .words) (l .sizes)) (l .table) (l .i) (l .names) (l .made) (l .used) (v .3 ds b h st) (subst (λ (n : ℕ). l .i < n) st (c .before .before .before .before .before .before .before .before .before .before .before .before .before .before .loop-test .taken)) (λ e. c .before .before .before .before .before .before .before .before .before .before .before .before .if1 .left (c .before .before .before .before .before .before .before .before .before .before .before .before .before .kind-at .ensures ∙ e)) (arrays (c .before .before .before .before .declare .last .1 .1 .1 .1 .0) (c .before .before .before .before .declare .last .1 .1 .1 .1 .1 .0) (c .before .before .before .before .declare .last .1 .1 .1 .1 .1 .1 .0) (c .before .before .before .before .declare .last .1 .1 .1 .1 .1 .1 .1 .0) (c .before .before .before .before .declare .last .1 .1 .1 .1 .1 .1 .1 .1 .0) (c .before .before .before .before .declare .last .1 .1 .1 .1 .1 .1 .1 .1 .1 .0)) (c .before .before .before .before .declare .last .1 .1 .1 .1 .1 .1 .1 .1 .1 .1 .0) (c .before .before .r2 .given .0 .0) (c .before .before .r2 .given .0 .1 .0) (c .before .before .r2 .given .0 .1 .1 .0) n))
+loop-again-2 c =
+    let c4 = c .before .before .before .before in let c11 = c4 .before .before .before .before .before .before .before in let c12 = c11 .before in let c13 = c12 .before in
+    let c14 = c13 .before in let start = c14 .before .before .before .before .before in let a = start .args in let l = c14 .loop in let v = l .inv in
+    let read = c .before .before .r2 .given in let d = c4 .declare in
+    let old = arrays (l .name-places) (l .name-lengths) (l .name-rows) (l .sorts) (l .words) (v .3 .0) in
+    let s = scope-of (a .source .now) old (l .names) (l .made) (l .used) in let e = d .ensures (v .3 .0) (v .3 .1) in
+    let new = arrays (d .last .1 .1 .1 .1 .0) (d .last .1 .1 .1 .1 .1 .0) (d .last .1 .1 .1 .1 .1 .1 .0) (d .last .1 .1 .1 .1 .1 .1 .1 .0) (d .last .1 .1 .1 .1 .1 .1 .1 .1 .0) (e .0) in
+    let t = d .last .1 .1 .1 .1 .1 .1 .1 .1 .1 .0 in
+    let n = (subst (λ (x : Progress). Enters (a .source .now) (a .kinds .now) (a .places .now) (a .values .now) s (l .i) old new (l .table) t x) (read .1) (e .2)) in
+    let r = entered-room (a .source .now) (a .kinds .now) (a .places .now) (a .values .now) s (l .i) old new (l .table) t (read .0 .0) (read .0 .1 .0) (read .0 .1 .1 .0) n (v .0) in (
+      r .0,
+      r .1,
+      r .2,
+      (
+        e .0,
+        e .1,
+        λ ds b h st. subst (λ (w : ℕ). Going (a .source .now) (a .kinds .now) (a .places .now) (a .values .now) ds b (a .table .now) new t (l .i + w) (read .0 .0) (read .0 .1 .0) (read .0 .1 .1 .0))
+            (sym (c .width .ensures ∙ ap judging.width (c12 .kind-at .ensures)))
+            (going-on (a .source .now) (a .kinds .now) (a .places .now) (a .values .now) ds b (a .table .now) old (l .table) (l .i) (l .names) (l .made) (l .used) (v .3 .2 ds b h st)
+            (subst (λ (n : ℕ). l .i < n) st (c13 .loop-test .taken)) (λ e. c11 .if1 .left (c12 .kind-at .ensures ∙ e)) new t (read .0 .0) (read .0 .1 .0) (read .0 .1 .1 .0) n),
+      ),
+    )
 
 pub bind-spec : {M : Type 1} → statement M
 bind-spec =
@@ -33,17 +56,53 @@ bind-spec =
     (tie.spec
     Inv-loop
     μ-loop
-    (λ c. let a = c .before .before .before .before .args in (omega arith, omega arith, omega arith, λ ds b h st. going-start (a .source .now) (a .kinds .now) (a .places .now) (a .values .now) ds b (a .table .now) _ h))
-    (λ c κs. search needs)
+    (λ c. let a = c .before .before .before .before .args in let sizes : List ℕ = replicate 256 0 in (
+      omega arith,
+      omega arith,
+      omega arith,
+      (sizes, omega (arith, length-replicate {A = ℕ} 256 0), λ ds b h st. going-start (a .source .now) (a .kinds .now) (a .places .now) (a .values .now) ds b (a .table .now) _ h),
+    ))
+    (search needs)
     (λ c. omega (arith, c .before .before .before .before .before .before .before .before .pre))
     (λ c. omega arith)
-    (λ c. let a = c .before .before .before .before .before .before .before .before .args in let l = c .before .before .before .loop in let v = l .inv in (v .0, v .1, v .2, λ ds b h st. going-comment (a .source .now) (a .kinds .now) (a .places .now) (a .values .now) ds b (a .table .now) (arrays (l .sources) (l .lengths) (l .rows) (l .sorts) (l .words) (l .sizes)) (l .table) (l .i) (l .names) (l .made) (l .used) (v .3 ds b h st) (subst (λ (n : ℕ). l .i < n) st (c .before .before .loop-test .taken)) (sym (c .before .kind-at .ensures) ∙ c .if1 .taken)))
-    (λ c κs. let v = c .before .before .before .before .before .before .before .before .before .before .loop .inv in (omega (arith, c .before .before .before .before .before .before .before .before .before .before .before .before .before .before .before .pre, c .before .before .before .before .before .before .before .before .before .loop-test .taken), (v .0, (v .1, v .2))))
-    (λ c. search needs)
-    (λ c. let a = c .before .before .before .before .before .before .before .before .before .before .before .before .before .before .before .before .before .before .before .args in let l = c .before .before .before .before .before .before .before .before .before .before .before .before .before .before .loop in let v = l .inv in λ ds b h st. going-refused (a .source .now) (a .kinds .now) (a .places .now) (a .values .now) ds b (a .table .now) (arrays (l .sources) (l .lengths) (l .rows) (l .sorts) (l .words) (l .sizes)) (l .table) (l .i) (l .names) (l .made) (l .used) (v .3 ds b h st) (subst (λ (n : ℕ). l .i < n) st (c .before .before .before .before .before .before .before .before .before .before .before .before .before .loop-test .taken)) (λ e. c .before .before .before .before .before .before .before .before .before .before .before .if1 .left (c .before .before .before .before .before .before .before .before .before .before .before .before .kind-at .ensures ∙ e)) _ (subst (λ (x : Progress). Enters (a .source .now) (a .kinds .now) (a .places .now) (a .values .now) (scope-of (a .source .now) (arrays (l .sources) (l .lengths) (l .rows) (l .sorts) (l .words) (l .sizes)) (l .names) (l .made) (l .used)) (l .i) (arrays (l .sources) (l .lengths) (l .rows) (l .sorts) (l .words) (l .sizes)) (arrays (c .before .before .before .declare .last .1 .1 .1 .1 .0) (c .before .before .before .declare .last .1 .1 .1 .1 .1 .0) (c .before .before .before .declare .last .1 .1 .1 .1 .1 .1 .0) (c .before .before .before .declare .last .1 .1 .1 .1 .1 .1 .1 .0) (c .before .before .before .declare .last .1 .1 .1 .1 .1 .1 .1 .1 .0) (c .before .before .before .declare .last .1 .1 .1 .1 .1 .1 .1 .1 .1 .0)) (l .table) (c .before .before .before .declare .last .1 .1 .1 .1 .1 .1 .1 .1 .1 .1 .0) x) (c .before .r .given .1) (c .before .before .before .declare .ensures)))
-    (λ c. search needs)
-    (λ c κs. search needs)
-    (λ c. let w = width-small (c .before .before .before .before .before .before .before .before .before .before .before .before .before .kind-at .result) in omega (arith, c .before .before .before .before .before .before .before .before .before .before .before .before .before .before .before .before .before .before .before .before .pre, c .before .before .before .before .before .before .before .before .before .before .before .before .before .before .loop-test .taken, c .width .ensures, w .1))
-    (λ c. let w = width-small (c .before .before .before .before .before .before .before .before .before .before .before .before .before .kind-at .result) in omega (arith, c .before .before .before .before .before .before .before .before .before .before .before .before .before .before .loop-test .taken, c .width .ensures, w .0))
+    (λ c. let a = c .before .before .before .before .before .before .before .before .args in let l = c .before .before .before .loop in let v = l .inv in
+    let old = arrays (l .name-places) (l .name-lengths) (l .name-rows) (l .sorts) (l .words) (v .3 .0) in (
+      v .0,
+      v .1,
+      v .2,
+      (
+        v .3 .0,
+        v .3 .1,
+        λ ds b h st. going-comment (a .source .now) (a .kinds .now) (a .places .now) (a .values .now) ds b (a .table .now) old (l .table) (l .i) (l .names) (l .made) (l .used) (v .3 .2 ds b h st)
+            (subst (λ (n : ℕ). l .i < n) st (c .before .before .loop-test .taken)) (sym (c .before .kind-at .ensures) ∙ c .if1 .taken),
+      ),
+    ))
+    (λ c κs. let c8 = c .before .before .before .before .before .before .before .before in let c9 = c8 .before in let start = c9 .before .before .before .before .before in let v = c9 .loop .inv in
+    (omega (arith, start .pre, c8 .loop-test .taken), (v .0, (v .1, v .2))))
+    (search needs)
+    (λ c.
+    let c10 = c .before .before .before .before .before .before .before .before .before .before in let c11 = c10 .before in let c12 = c11 .before in let c13 = c12 .before in
+    let start = c13 .before .before .before .before .before in let a = start .args in let l = c13 .loop in let v = l .inv in let d = c .before .before .before .declare in
+    let old = arrays (l .name-places) (l .name-lengths) (l .name-rows) (l .sorts) (l .words) (v .3 .0) in
+    let s = scope-of (a .source .now) old (l .names) (l .made) (l .used) in let e = d .ensures (v .3 .0) (v .3 .1) in
+    let new = arrays (d .last .1 .1 .1 .1 .0) (d .last .1 .1 .1 .1 .1 .0) (d .last .1 .1 .1 .1 .1 .1 .0) (d .last .1 .1 .1 .1 .1 .1 .1 .0) (d .last .1 .1 .1 .1 .1 .1 .1 .1 .0) (e .0) in
+    let t = d .last .1 .1 .1 .1 .1 .1 .1 .1 .1 .0 in (
+      e .0,
+      λ ds b h st.
+          going-refused (a .source .now) (a .kinds .now) (a .places .now) (a .values .now) ds b (a .table .now) old (l .table) (l .i) (l .names) (l .made) (l .used) (v .3 .2 ds b h st)
+          (subst (λ (n : ℕ). l .i < n) st (c12 .loop-test .taken)) (λ e. c10 .if1 .left (c11 .kind-at .ensures ∙ e)) _
+          (subst (λ (x : Progress). Enters (a .source .now) (a .kinds .now) (a .places .now) (a .values .now) s (l .i) old new (l .table) t x) (c .before .r .given .1) (e .2)),
+    ))
+    (search needs) (search needs)
+    (λ c. let c12 = c .before .before .before .before .before .before .before .before .before .before .before .before in let c13 = c12 .before in
+    let start = c13 .before .before .before .before .before .before in let w = width-small (c12 .kind-at .result) in
+    omega (arith, start .pre, c13 .loop-test .taken, c .width .ensures, w .1))
+    (λ c. let c12 = c .before .before .before .before .before .before .before .before .before .before .before .before in let c13 = c12 .before in
+    let w = width-small (c12 .kind-at .result) in omega (arith, c13 .loop-test .taken, c .width .ensures, w .0))
     loop-again-2
-    (λ c. let a = c .before .before .before .before .before .before .args in let l = c .before .loop in let v = l .inv in λ ds b h st. going-end (a .source .now) (a .kinds .now) (a .places .now) (a .values .now) ds b (a .table .now) (arrays (l .sources) (l .lengths) (l .rows) (l .sorts) (l .words) (l .sizes)) (l .table) (l .i) (l .names) (l .made) (l .used) (v .3 ds b h st) (subst (λ (n : ℕ). n ≤ l .i) st (c .loop-test .left))))
+    (λ c. let a = c .before .before .before .before .before .before .args in let l = c .before .loop in let v = l .inv in
+    let old = arrays (l .name-places) (l .name-lengths) (l .name-rows) (l .sorts) (l .words) (v .3 .0) in (
+      v .3 .0,
+      λ ds b h st. going-end (a .source .now) (a .kinds .now) (a .places .now) (a .values .now) ds b (a .table .now) old (l .table) (l .i) (l .names) (l .made) (l .used) (v .3 .2 ds b h st)
+          (subst (λ (n : ℕ). n ≤ l .i) st (c .loop-test .left)),
+    )))

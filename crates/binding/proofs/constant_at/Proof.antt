@@ -3,10 +3,11 @@
 use mathlib.Core.Path.{sym, ap, ap₂, _∙_}
 use Prim.Native.Nat.{ℕ}
 use borrow.Author.Tests.{eq-eqb, ne-eqb}
+use Rattle.spelling.specs.Kinds as kind
 use Rattle.names.specs.Scope.{lookup}
 use Rattle.name_table.specs.View.{view, arrays}
 use Rattle.name_table.specs.View as views
-use Rattle.judging.specs.Judge.{constant-by}
+use Rattle.judging.specs.Judge.{constant-by, constant-bare}
 use Rattle.judging.specs.declared.Constant.{Constant}
 use borrow.Author.Needs.{needs}
 use Rattle.binding.proofs.constant_at.Statement.{statement}
@@ -16,11 +17,16 @@ pub constant-at-spec : {M : Type 1} → statement M
 constant-at-spec =
     tie.close
     (tie.spec
-    (λ c κs. search needs)
-    (λ c κs. search needs)
-    (λ c. λ made used. rw (eq-eqb _ 1 (sym (c .before .before .kind-at .ensures) ∙ c .before .if1 .taken)) (ap {B = Constant} (λ (w : ℕ). record { status = 0; word = w }) (c .number .ensures)))
-    (λ c κs. search needs)
-    (λ c κs. search needs)
-    (λ c κs. search needs)
-    (λ c κs. search needs)
-    (λ c. λ made used. let a = c .before .before .before .before .before .before .before .before .before .before .before .before .before .before .before .before .args in rw (ne-eqb _ 1 (λ e. c .before .before .before .before .if1 .left (c .before .before .before .before .before .kind-at .ensures ∙ e))) (c .constant-of .ensures ∙ ap constant-by (c .before .stands-for .ensures ∙ ap₂ (λ (x y : ℕ). lookup (view (a .source .now) (arrays (a .sources .now) (a .lengths .now) (a .rows .now) (a .sorts .now) (a .words .now) (a .sizes .now)) (a .names)) (views.text (a .source .now) x y)) (c .before .before .before .number2 .ensures) (c .before .before .number3 .ensures)))))
+    (search needs) (search needs)
+    (λ c. λ sizes made used.
+    rw (eq-eqb _ kind.number (sym (c .before .before .kind-at .ensures) ∙ c .before .if1 .taken)) (ap {B = Constant} (λ (w : ℕ). record { status = 0; word = w }) (c .number .ensures)))
+    (search needs) (search needs) (search needs) (search needs)
+    (λ c. let number2 = c .before .before .before .number2 in let c4 = c .before .before .before .before in let c5 = c4 .before in
+    let start = c5 .before .before .before .before .before .before .before .before .before .before in
+    λ sizes made used. let a = start .args in
+    let t = arrays (a .name-places .now) (a .name-lengths .now) (a .name-rows .now) (a .sorts .now) (a .words .now) sizes in
+    rw (ne-eqb _ kind.number (λ e. c4 .if1 .left (c5 .kind-at .ensures ∙ e)))
+    (c .constant-of .ensures ∙ ap constant-by (c .before .stands-for .ensures sizes)
+    ∙ constant-bare (lookup (view (a .source .now) t (a .names)) (views.text (a .source .now) (number2 .result) (c .before .before .number3 .result)))
+    ∙ ap₂ (λ (x y : ℕ). constant-by (lookup (view (a .source .now) t (a .names)) (views.text (a .source .now) x y))) (number2 .ensures)
+    (c .before .before .number3 .ensures))))

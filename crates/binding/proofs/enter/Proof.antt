@@ -5,6 +5,7 @@ use native.Mathlib.Numerals.{add-one}
 use mathlib.Core.Path.{refl}
 use borrow.Author.Tests.{eq-eqb, ne-eqb}
 use borrow.Author.Needs.{needs}
+use Rattle.name_table.specs.Sorts as name-sort
 use Rattle.binding.proofs.enter.Statement.{statement}
 use Rattle.binding.proofs.enter.Tie as tie
 
@@ -12,13 +13,28 @@ pub enter-spec : {M : Type 1} → statement M
 enter-spec =
     tie.close
     (tie.spec
-    (λ c κs. search needs)
+    (search needs)
+    (λ c. omega (arith, c .before .before .before .before .before .before .before .pre))
     (λ c. omega (arith, c .before .before .before .before .before .before .before .before .pre))
     (λ c. omega (arith, c .before .before .before .before .before .before .before .before .before .pre))
-    (λ c. omega (arith, c .before .before .before .before .before .before .before .before .before .before .pre))
-    (λ c. record { count = refl; rows = refl; words = refl; name = λ source. rw (add-one (c .before .before .before .before .before .before .before .before .before .before .args .names)) (c .before .before .before .add .ensures source); table = rw (eq-eqb (c .before .before .before .before .before .before .before .before .before .before .args .e .sort) 3 (c .before .before .if1 .taken)) })
-    (λ c κs. omega (arith, c .before .before .before .before .before .before .before .before .before .pre))
+    (λ c. let start = c .before .before .before .before .before .before .before .before .before in λ sizes l.
+    record {
+      count = refl;
+      rows = refl;
+      words = refl;
+      name = λ source. rw (add-one (start .args .names)) (c .before .before .before .add .ensures source sizes (start .args .e .size) l);
+      table = rw (eq-eqb (start .args .e .sort) name-sort.val (c .before .before .if1 .taken));
+    })
+    (λ c κs. omega (arith, c .before .before .before .before .before .before .before .before .pre))
+    (λ c. omega (arith, c .before .before .before .before .before .before .before .before .before .pre))
     (λ c. omega (arith, c .before .before .before .before .before .before .before .before .before .before .pre))
     (λ c. omega (arith, c .before .before .before .before .before .before .before .before .before .before .before .pre))
-    (λ c. omega (arith, c .before .before .before .before .before .before .before .before .before .before .before .before .pre))
-    (λ c. record { count = refl; rows = refl; words = refl; name = λ source. rw (add-one (c .before .before .before .before .before .before .before .before .before .before .before .before .args .names)) (c .before .before .before .before .before .add .ensures source); table = rw (ne-eqb (c .before .before .before .before .before .before .before .before .before .before .before .before .args .e .sort) 3 (c .before .before .before .before .if1 .left)) (c .before .before .put .ensures) }))
+    (λ c. let if1 = c .before .before .before .before .if1 in let add = c .before .before .before .before .before .add in
+    let start = c .before .before .before .before .before .before .before .before .before .before .before in λ sizes l.
+    record {
+      count = refl;
+      rows = refl;
+      words = refl;
+      name = λ source. rw (add-one (start .args .names)) (add .ensures source sizes (start .args .e .size) l);
+      table = rw (ne-eqb (start .args .e .sort) name-sort.val (if1 .left)) (c .before .before .put .ensures);
+    }))

@@ -28,19 +28,10 @@ read-spec =
     (tie.spec
     Inv-loop
     μ-loop
-    (λ c. search needs)
-    (λ c. search needs)
-    (λ c. search needs)
-    (λ c. search needs)
-    (λ c κs. search needs)
-    (λ c. search needs)
-    (λ c. search needs)
-    (λ c. search needs)
-    (λ c. search needs)
-    (λ c. search needs)
+    (search needs) (search needs) (search needs) (search needs) (search needs) (search needs) (search needs) (search needs) (search needs) (search needs)
     (λ c. counts _ _ (omega arith))
     add-done
-    (λ c. search needs)
+    (search needs)
     loop-again
-    (λ c. search needs)
+    (search needs)
     (λ c. counts _ _ (omega arith)))

@@ -12,6 +12,10 @@ check-subscript-spec =
     (tie.spec
     (λ c κs. unfold check-subscript in first _ (c .before .before .pre))
     (λ c κs. unfold check-subscript in first _ (rest (c .before .before .before .put-four .ensures) (c .before .before .before .before .before .before .pre)))
-    (λ c κs. unfold check-subscript in (rest (c .before .before .before .constant .ensures) (rest (c .before .before .before .before .before .before .before .put-four .ensures) (c .before .before .before .before .before .before .before .before .before .before .pre))))
-    (λ c. search needs)
-    (λ c. unfold check-subscript in then (c .before .before .before .before .before .before .before .before .before .before .put-four .ensures) (then (c .before .before .before .before .before .before .constant .ensures) (c .before .before .put-four2 .ensures))))
+    (λ c κs. unfold check-subscript in let put-four = c .before .before .before .before .before .before .before .put-four in
+    let start = c .before .before .before .before .before .before .before .before .before .before in
+    (rest (c .before .before .before .constant .ensures) (rest (put-four .ensures) (start .pre))))
+    (search needs)
+    (λ c. unfold check-subscript in let constant = c .before .before .before .before .before .before .constant in
+    let put-four = c .before .before .before .before .before .before .before .before .before .before .put-four in
+    then (put-four .ensures) (then (constant .ensures) (c .before .before .put-four2 .ensures))))

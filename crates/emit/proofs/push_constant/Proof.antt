@@ -11,6 +11,10 @@ push-constant-spec =
     tie.close (tie.spec
     (λ c κs. unfold push-constant in first _ (c .before .before .pre))
     (λ c κs. unfold push-constant in first _ (rest (c .before .before .before .put .ensures) (c .before .before .before .before .before .before .pre)))
-    (λ c κs. unfold push-constant in (rest (c .before .before .before .constant .ensures) (rest (c .before .before .before .before .before .before .before .put .ensures) (c .before .before .before .before .before .before .before .before .before .before .pre))))
-    (λ c. search needs)
-    (λ c. unfold push-constant in then (c .before .before .before .before .before .before .before .before .before .before .put .ensures) (then (c .before .before .before .before .before .before .constant .ensures) (c .before .before .put2 .ensures))))
+    (λ c κs. unfold push-constant in let put = c .before .before .before .before .before .before .before .put in
+    let start = c .before .before .before .before .before .before .before .before .before .before in
+    (rest (c .before .before .before .constant .ensures) (rest (put .ensures) (start .pre))))
+    (search needs)
+    (λ c. unfold push-constant in let constant = c .before .before .before .before .before .before .constant in
+    let put = c .before .before .before .before .before .before .before .before .before .before .put in
+    then (put .ensures) (then (constant .ensures) (c .before .before .put2 .ensures))))

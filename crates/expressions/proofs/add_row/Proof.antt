@@ -10,8 +10,7 @@ pub add-row-spec : {M : Type 1} → statement M
 add-row-spec =
     tie.close
     (tie.spec
-    (λ c. search needs)
-    (λ c. search needs)
+    (search needs) (search needs)
     (λ c. let h = subst Ready (c .before .before .r2 .given .1) (c .before .before .before .before .pre) in omega arith)
     (λ c. let h = subst Ready (c .before .before .r2 .given .1) (c .before .before .before .before .pre) in omega arith)
     (λ c κs. let h = subst Ready (c .before .before .r2 .given .1) (c .before .before .before .before .pre) in omega arith)

@@ -11,10 +11,8 @@ pub close-spec : {M : Type 1} → statement M
 close-spec =
     tie.close
     (tie.spec
-    (λ c. search needs)
-    (λ c. search needs)
-    (λ c κs. search needs)
-    (λ c. let h = subst (Within (c .before .before .before .before .before .before .args .kinds .now)) (c .before .before .before .r2 .given .1) (c .before .before .before .before .before .before .pre .0) in omega arith)
+    (search needs) (search needs) (search needs)
+    (λ c. let start = c .before .before .before .before .before .before in let h = subst (Within (start .args .kinds .now)) (c .before .before .before .r2 .given .1) (start .pre .0) in omega arith)
     (λ c. rw (c .before .r .given .1))
     (λ c. rw (c .before .before .before .r2 .given .1, ← c .before .kind-at .ensures, eq-eqb _ _ (c .if1 .taken)))
     (λ c. rw (c .before .before .before .r2 .given .1, ← c .before .kind-at .ensures, ne-eqb _ _ (c .if1 .left))))

@@ -10,11 +10,9 @@ pub deepen-spec : {M : Type 1} → statement M
 deepen-spec =
     tie.close
     (tie.spec
-    (λ c. search needs)
-    (λ c. search needs)
-    (λ c κs. search needs)
+    (search needs) (search needs) (search needs)
     (λ c. let h = subst Shallow (c .before .before .r2 .given .1) (c .before .before .before .before .pre .0) in omega arith)
-    (λ c κs. search needs)
+    (search needs)
     (λ c. let h = subst Shallow (c .before .before .before .r2 .given .1) (c .before .before .before .before .before .pre .0) in omega arith)
     (λ c. rw (c .before .r .given .1))
     (λ c. rw (c .before .before .before .r2 .given .1, c .before .larger .ensures, c .larger2 .ensures)))

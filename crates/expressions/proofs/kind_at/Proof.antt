@@ -7,6 +7,5 @@ use Rattle.expressions.proofs.kind_at.Tie as tie
 
 pub kind-at-spec : {M : Type 1} → statement M
 kind-at-spec = tie.close (tie.spec
-    (λ c. search needs)
-    (λ c. search needs)
+    (search needs) (search needs)
     (λ c. sym (List·getD-eq-default (c .before .args .kinds .now) 0 (c .if1 .left))))

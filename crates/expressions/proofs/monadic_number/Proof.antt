@@ -1,9 +1,10 @@
 -- `monadic_number` equals its definition.
 use borrow.Author.Tests.{eq-eqb, ne-eqb}
+use Rattle.spelling.specs.Kinds as kind
 use Rattle.expressions.proofs.monadic_number.Statement.{statement}
 use Rattle.expressions.proofs.monadic_number.Tie as tie
 
 pub monadic-number-spec : {M : Type 1} → statement M
 monadic-number-spec = tie.close (tie.spec
-    (λ c. rw (eq-eqb _ 32 (c .if1 .taken)))
-    (λ c. rw (ne-eqb _ 32 (c .if1 .left))))
+    (λ c. rw (eq-eqb _ kind.minus (c .if1 .taken)))
+    (λ c. rw (ne-eqb _ kind.minus (c .if1 .left))))

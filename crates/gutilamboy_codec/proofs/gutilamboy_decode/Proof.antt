@@ -8,6 +8,5 @@ use Rattle.gutilamboy_codec.proofs.gutilamboy_decode.Tie as tie
 
 pub gutilamboy-decode-spec : {M : Type 1} → statement M
 gutilamboy-decode-spec = tie.close (tie.spec
-    (λ c κs. search needs)
-    (λ c κs. search needs)
+    (search needs) (search needs)
     (λ c. c .decoded-words .ensures ∙ ap decodedWords (c .before .decode .ensures)))

@@ -1,6 +1,8 @@
 -- `judging::judge` meets its contract. Each way through the code makes the same choices as the definition.
 -- Assumes nothing.
 use mathlib.Core.List.{_++_}
+use Rattle.spelling.specs.Kinds as kind
+use Rattle.token.specs.Refusals as refusal
 use Rattle.names.specs.Complaints.{is-known, when, bad-length}
 use Rattle.name_table.specs.View.{meant}
 use Rattle.judging.specs.Judge.{listed, over}
@@ -15,13 +17,19 @@ pub judge-spec : {M : Type 1} → statement M
 judge-spec =
     tie.close
     (tie.spec
-    (λ c κs. search needs)
-    (λ c. unfold complaints-by in rw (eq-eqb (c .before .before .args .k) 13 (c .before .if1 .taken)) (c .new-name .ensures))
-    (λ c κs. search needs)
-    (λ c. unfold complaints-by in let a = c .before .before .before .before .args in rw (ne-eqb (c .before .before .before .before .args .k) 13 (c .before .before .before .if1 .left), eq-eqb (c .before .before .before .before .args .k) 14 (c .before .before .if2 .taken), eq-eqb (c .before .before .before .before .args .status) 0 (c .before .if3 .taken)) (c .new-array .ensures ∙ sym (first-none (listed (a .p) (when (is-known (meant (a .m))) 9 ++ (when (bad-length (a .word)) 11 ++ when (over (a .names) (a .words) (a .word)) 12))))))
-    (λ c κs. search needs)
-    (λ c κs. search needs)
-    (λ c. unfold complaints-by in rw (ne-eqb (c .before .before .before .before .before .args .k) 13 (c .before .before .before .before .if1 .left), eq-eqb (c .before .before .before .before .before .args .k) 14 (c .before .before .before .if2 .taken), first-append) (c .and-constant .ensures ∙ rw (c .before .new-name2 .ensures, ne-eqb (c .before .before .before .before .before .args .status) 0 (c .before .before .if3 .left))))
-    (λ c κs. search needs)
-    (λ c κs. search needs)
-    (λ c. unfold complaints-by in rw (ne-eqb (c .before .before .before .before .args .k) 13 (c .before .before .before .if1 .left), ne-eqb (c .before .before .before .before .args .k) 14 (c .before .before .if2 .left), first-append) (c .and-constant2 .ensures ∙ rw (c .before .new-name3 .ensures))))
+    (search needs)
+    (λ c. unfold complaints-by in rw (eq-eqb (c .before .before .args .k) kind.var (c .before .if1 .taken)) (c .new-name .ensures))
+    (search needs)
+    (λ c. unfold complaints-by in let a = c .before .before .before .before .args in
+    rw (ne-eqb (a .k) kind.var (c .before .before .before .if1 .left), eq-eqb (a .k) kind.array (c .before .before .if2 .taken), eq-eqb (a .status) 0 (c .before .if3 .taken))
+    (c .new-array .ensures ∙ sym (first-none (listed (a .p)
+    (when (is-known (meant (a .m))) refusal.declared-twice
+    ++ (when (bad-length (a .word)) refusal.bad-length ++ when (over (a .names) (a .words) (a .word)) refusal.too-much))))))
+    (search needs) (search needs)
+    (λ c. unfold complaints-by in let if1 = c .before .before .before .before .if1 in let start = c .before .before .before .before .before in
+    rw (ne-eqb (start .args .k) kind.var (if1 .left), eq-eqb (start .args .k) kind.array (c .before .before .before .if2 .taken), first-append)
+    (c .and-constant .ensures ∙ rw (c .before .new-name2 .ensures, ne-eqb (start .args .status) 0 (c .before .before .if3 .left))))
+    (search needs) (search needs)
+    (λ c. unfold complaints-by in let start = c .before .before .before .before in
+    rw (ne-eqb (start .args .k) kind.var (c .before .before .before .if1 .left), ne-eqb (start .args .k) kind.array (c .before .before .if2 .left), first-append)
+    (c .and-constant2 .ensures ∙ rw (c .before .new-name3 .ensures))))

@@ -9,10 +9,12 @@ pub new-array-spec : {M : Type 1} → statement M
 new-array-spec =
     tie.close
     (tie.spec
-    (λ c κs. search needs)
+    (search needs)
     (λ c. rw (sym (c .before .known .ensures) ∙ c .if1 .taken))
-    (λ c κs. search needs)
+    (search needs)
     (λ c. rw (sym (c .before .before .before .known .ensures) ∙ c .before .before .if1 .left, sym (c .before .bad-length .ensures) ∙ c .if2 .taken))
-    (λ c κs. search needs)
-    (λ c. rw (sym (c .before .before .before .before .before .known .ensures) ∙ c .before .before .before .before .if1 .left, sym (c .before .before .before .bad-length .ensures) ∙ c .before .before .if2 .left, sym (c .before .full .ensures) ∙ c .if3 .taken))
-    (λ c. rw (sym (c .before .before .before .before .before .known .ensures) ∙ c .before .before .before .before .if1 .left, sym (c .before .before .before .bad-length .ensures) ∙ c .before .before .if2 .left, sym (c .before .full .ensures) ∙ c .if3 .left)))
+    (search needs)
+    (λ c. let if1 = c .before .before .before .before .if1 in let known = c .before .before .before .before .before .known in
+    rw (sym (known .ensures) ∙ if1 .left, sym (c .before .before .before .bad-length .ensures) ∙ c .before .before .if2 .left, sym (c .before .full .ensures) ∙ c .if3 .taken))
+    (λ c. let if1 = c .before .before .before .before .if1 in let known = c .before .before .before .before .before .known in
+    rw (sym (known .ensures) ∙ if1 .left, sym (c .before .before .before .bad-length .ensures) ∙ c .before .before .if2 .left, sym (c .before .full .ensures) ∙ c .if3 .left)))

@@ -7,8 +7,8 @@ use Rattle.judging.proofs.new_name.Tie as tie
 
 pub new-name-spec : {M : Type 1} → statement M
 new-name-spec = tie.close (tie.spec
-    (λ c κs. search needs)
+    (search needs)
     (λ c. rw (sym (c .before .known .ensures) ∙ c .if1 .taken))
-    (λ c κs. search needs)
+    (search needs)
     (λ c. rw (sym (c .before .before .before .known .ensures) ∙ c .before .before .if1 .left, sym (c .before .full .ensures) ∙ c .if2 .taken))
     (λ c. rw (sym (c .before .before .before .known .ensures) ∙ c .before .before .if1 .left, sym (c .before .full .ensures) ∙ c .if2 .left)))

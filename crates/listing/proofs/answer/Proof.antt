@@ -33,9 +33,8 @@ pub answer-spec : {M : Type 1} → statement M
 answer-spec =
     tie.close
     (tie.spec
-    (λ c κs. search needs)
-    (λ c. search needs)
+    (search needs) (search needs)
     slice-aggregate-write
     write-requires
-    (λ c. search needs)
-    (λ c. search needs))
+    (search needs)
+    (search needs))

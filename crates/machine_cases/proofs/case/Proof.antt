@@ -8,8 +8,7 @@ use Rattle.machine_cases.proofs.case.Tie as tie
 
 pub case-spec : {M : Type 1} → statement M
 case-spec = tie.close (tie.spec
-    (λ c κs. search needs)
+    (search needs)
     (λ c. sym (length-take-le (c .before .before .before .before .before .args .length) (c .before .before .before .before .before .args .code .now) (c .before .if1 .taken)))
-    (λ c κs. search needs)
-    (λ c. search needs)
-    (λ c. search needs))
+    (search needs) (search needs)
+    (search needs))

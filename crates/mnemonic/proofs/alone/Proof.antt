@@ -12,4 +12,4 @@ returns c =
     joined (written (x .line)) (x .name .now) (decimal (x .n)) _ _ (c .before .put-all .ensures) (c .decimal .ensures)
 
 pub alone-spec : {M : Type 1} → statement M
-alone-spec = tie.close (tie.spec (λ c κs. search needs) (λ c κs. search needs) returns)
+alone-spec = tie.close (tie.spec (search needs) (search needs) returns)

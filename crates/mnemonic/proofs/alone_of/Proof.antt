@@ -16,12 +16,12 @@ pub alone-of-spec : {M : Type 1} → statement M
 alone-of-spec =
     tie.close
     (tie.spec
-    (λ c. search needs)
-    (λ c κs. search needs)
+    (search needs) (search needs)
     (λ c. unfold alone-name in let x = c .before .before .before .args in numbered (λ (k : ℕ). alone (alone-name k) (x .n)) 0 (written (x .line)) _ (c .alone .ensures) (c .before .before .if1 .taken))
-    (λ c. search needs)
-    (λ c κs. search needs)
-    (λ c. unfold alone-name in let x = c .before .before .before .before .args in numbered (λ (k : ℕ). alone (alone-name k) (x .n)) 1 (written (x .line)) _ (c .alone2 .ensures) (c .before .before .if2 .taken))
-    (λ c. search needs)
-    (λ c κs. search needs)
-    (λ c. unfold alone-name in let x = c .before .before .before .before .args in c .alone3 .ensures ∙ ap (λ (n : List ℕ). fitted (written (x .line) ++ alone n (x .n))) (pick-f _ _ _ _ (ne-eqb _ _ (c .before .before .before .if1 .left)) (pick-f _ _ _ _ (ne-eqb _ _ (c .before .before .if2 .left)) refl))))
+    (search needs) (search needs)
+    (λ c. unfold alone-name in let x = c .before .before .before .before .args in
+    numbered (λ (k : ℕ). alone (alone-name k) (x .n)) 1 (written (x .line)) _ (c .alone2 .ensures) (c .before .before .if2 .taken))
+    (search needs) (search needs)
+    (λ c. unfold alone-name in let x = c .before .before .before .before .args in
+    c .alone3 .ensures ∙ ap (λ (n : List ℕ). fitted (written (x .line) ++ alone n (x .n)))
+    (pick-f _ _ _ _ (ne-eqb _ _ (c .before .before .before .if1 .left)) (pick-f _ _ _ _ (ne-eqb _ _ (c .before .before .if2 .left)) refl))))

@@ -16,21 +16,26 @@ pub branch-of-spec : {M : Type 1} → statement M
 branch-of-spec =
     tie.close
     (tie.spec
-    (λ c. search needs)
-    (λ c κs. search needs)
-    (λ c. unfold branch-name in let x = c .before .before .before .args in numbered (λ (k : ℕ). branch (branch-name k) (x .at) (x .k)) 0 (written (x .line)) _ (c .branch .ensures) (c .before .before .if1 .taken))
-    (λ c. search needs)
-    (λ c κs. search needs)
-    (λ c. unfold branch-name in let x = c .before .before .before .before .args in numbered (λ (k : ℕ). branch (branch-name k) (x .at) (x .k)) 1 (written (x .line)) _ (c .branch2 .ensures) (c .before .before .if2 .taken))
-    (λ c. search needs)
-    (λ c κs. search needs)
-    (λ c. unfold branch-name in let x = c .before .before .before .before .before .args in numbered (λ (k : ℕ). branch (branch-name k) (x .at) (x .k)) 2 (written (x .line)) _ (c .branch3 .ensures) (c .before .before .if3 .taken))
-    (λ c. search needs)
-    (λ c κs. search needs)
-    (λ c. unfold branch-name in let x = c .before .before .before .before .before .before .args in numbered (λ (k : ℕ). branch (branch-name k) (x .at) (x .k)) 3 (written (x .line)) _ (c .branch4 .ensures) (c .before .before .if4 .taken))
-    (λ c. search needs)
-    (λ c κs. search needs)
-    (λ c. unfold branch-name in let x = c .before .before .before .before .before .before .before .args in numbered (λ (k : ℕ). branch (branch-name k) (x .at) (x .k)) 4 (written (x .line)) _ (c .branch5 .ensures) (c .before .before .if5 .taken))
-    (λ c. search needs)
-    (λ c κs. search needs)
-    (λ c. unfold branch-name in let x = c .before .before .before .before .before .before .before .args in c .branch6 .ensures ∙ ap (λ (n : List ℕ). fitted (written (x .line) ++ branch n (x .at) (x .k))) (pick-f _ _ _ _ (ne-eqb _ _ (c .before .before .before .before .before .before .if1 .left)) (pick-f _ _ _ _ (ne-eqb _ _ (c .before .before .before .before .before .if2 .left)) (pick-f _ _ _ _ (ne-eqb _ _ (c .before .before .before .before .if3 .left)) (pick-f _ _ _ _ (ne-eqb _ _ (c .before .before .before .if4 .left)) (pick-f _ _ _ _ (ne-eqb _ _ (c .before .before .if5 .left)) refl)))))))
+    (search needs) (search needs)
+    (λ c. unfold branch-name in let x = c .before .before .before .args in
+    numbered (λ (k : ℕ). branch (branch-name k) (x .at) (x .k)) 0 (written (x .line)) _ (c .branch .ensures) (c .before .before .if1 .taken))
+    (search needs) (search needs)
+    (λ c. unfold branch-name in let x = c .before .before .before .before .args in
+    numbered (λ (k : ℕ). branch (branch-name k) (x .at) (x .k)) 1 (written (x .line)) _ (c .branch2 .ensures) (c .before .before .if2 .taken))
+    (search needs) (search needs)
+    (λ c. unfold branch-name in let x = c .before .before .before .before .before .args in
+    numbered (λ (k : ℕ). branch (branch-name k) (x .at) (x .k)) 2 (written (x .line)) _ (c .branch3 .ensures) (c .before .before .if3 .taken))
+    (search needs) (search needs)
+    (λ c. unfold branch-name in let x = c .before .before .before .before .before .before .args in
+    numbered (λ (k : ℕ). branch (branch-name k) (x .at) (x .k)) 3 (written (x .line)) _ (c .branch4 .ensures) (c .before .before .if4 .taken))
+    (search needs) (search needs)
+    (λ c. unfold branch-name in let x = c .before .before .before .before .before .before .before .args in
+    numbered (λ (k : ℕ). branch (branch-name k) (x .at) (x .k)) 4 (written (x .line)) _ (c .branch5 .ensures) (c .before .before .if5 .taken))
+    (search needs) (search needs)
+    (λ c. unfold branch-name in let if3 = c .before .before .before .before .if3 in let if2 = c .before .before .before .before .before .if2 in
+    let if1 = c .before .before .before .before .before .before .if1 in let x = c .before .before .before .before .before .before .before .args in
+    c .branch6 .ensures ∙ ap (λ (n : List ℕ). fitted (written (x .line) ++ branch n (x .at) (x .k)))
+    (pick-f _ _ _ _ (ne-eqb _ _ (if1 .left))
+    (pick-f _ _ _ _ (ne-eqb _ _ (if2 .left))
+    (pick-f _ _ _ _ (ne-eqb _ _ (if3 .left))
+    (pick-f _ _ _ _ (ne-eqb _ _ (c .before .before .before .if4 .left)) (pick-f _ _ _ _ (ne-eqb _ _ (c .before .before .if5 .left)) refl)))))))

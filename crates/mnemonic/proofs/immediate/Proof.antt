@@ -13,4 +13,4 @@ returns c =
     joined (written (x .line)) (spec.single (x .name .now) (x .d)) (spec.next-number (x .n)) _ _ (c .before .single .ensures) (c .next-number .ensures)
 
 pub immediate-spec : {M : Type 1} → statement M
-immediate-spec = tie.close (tie.spec (λ c κs. search needs) (λ c κs. search needs) returns)
+immediate-spec = tie.close (tie.spec (search needs) (search needs) returns)

@@ -13,4 +13,4 @@ returns c =
     joined (written (x .line)) (ascii ",") (decimal (x .n)) _ _ (c .before .put .ensures) (c .decimal .ensures)
 
 pub next-number-spec : {M : Type 1} → statement M
-next-number-spec = tie.close (tie.spec (λ c κs. search needs) (λ c κs. search needs) returns)
+next-number-spec = tie.close (tie.spec (search needs) (search needs) returns)

@@ -14,4 +14,4 @@ returns c =
     joined (written (x .line)) (ascii ",") (spec.register (x .r)) _ _ (c .before .put .ensures) (c .register .ensures)
 
 pub next-register-spec : {M : Type 1} → statement M
-next-register-spec = tie.close (tie.spec (λ c κs. search needs) (λ c κs. search needs) returns)
+next-register-spec = tie.close (tie.spec (search needs) (search needs) returns)

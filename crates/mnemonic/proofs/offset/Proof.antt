@@ -13,4 +13,4 @@ returns c =
     joined (written (x .line)) (spec.pair (x .name .now) (x .d) (x .r)) (spec.next-number (x .n)) _ _ (c .before .pair .ensures) (c .next-number .ensures)
 
 pub offset-spec : {M : Type 1} → statement M
-offset-spec = tie.close (tie.spec (λ c κs. search needs) (λ c κs. search needs) returns)
+offset-spec = tie.close (tie.spec (search needs) (search needs) returns)

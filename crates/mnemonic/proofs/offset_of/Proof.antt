@@ -16,18 +16,22 @@ pub offset-of-spec : {M : Type 1} → statement M
 offset-of-spec =
     tie.close
     (tie.spec
-    (λ c. search needs)
-    (λ c κs. search needs)
-    (λ c. unfold offset-name in let x = c .before .before .before .args in numbered (λ (k : ℕ). offset (offset-name k) (x .d) (x .r) (x .n)) 0 (written (x .line)) _ (c .offset .ensures) (c .before .before .if1 .taken))
-    (λ c. search needs)
-    (λ c κs. search needs)
-    (λ c. unfold offset-name in let x = c .before .before .before .before .args in numbered (λ (k : ℕ). offset (offset-name k) (x .d) (x .r) (x .n)) 1 (written (x .line)) _ (c .offset2 .ensures) (c .before .before .if2 .taken))
-    (λ c. search needs)
-    (λ c κs. search needs)
-    (λ c. unfold offset-name in let x = c .before .before .before .before .before .args in numbered (λ (k : ℕ). offset (offset-name k) (x .d) (x .r) (x .n)) 2 (written (x .line)) _ (c .offset3 .ensures) (c .before .before .if3 .taken))
-    (λ c. search needs)
-    (λ c κs. search needs)
-    (λ c. unfold offset-name in let x = c .before .before .before .before .before .before .args in numbered (λ (k : ℕ). offset (offset-name k) (x .d) (x .r) (x .n)) 3 (written (x .line)) _ (c .offset4 .ensures) (c .before .before .if4 .taken))
-    (λ c. search needs)
-    (λ c κs. search needs)
-    (λ c. unfold offset-name in let x = c .before .before .before .before .before .before .args in c .offset5 .ensures ∙ ap (λ (n : List ℕ). fitted (written (x .line) ++ offset n (x .d) (x .r) (x .n))) (pick-f _ _ _ _ (ne-eqb _ _ (c .before .before .before .before .before .if1 .left)) (pick-f _ _ _ _ (ne-eqb _ _ (c .before .before .before .before .if2 .left)) (pick-f _ _ _ _ (ne-eqb _ _ (c .before .before .before .if3 .left)) (pick-f _ _ _ _ (ne-eqb _ _ (c .before .before .if4 .left)) refl))))))
+    (search needs) (search needs)
+    (λ c. unfold offset-name in let x = c .before .before .before .args in
+    numbered (λ (k : ℕ). offset (offset-name k) (x .d) (x .r) (x .n)) 0 (written (x .line)) _ (c .offset .ensures) (c .before .before .if1 .taken))
+    (search needs) (search needs)
+    (λ c. unfold offset-name in let x = c .before .before .before .before .args in
+    numbered (λ (k : ℕ). offset (offset-name k) (x .d) (x .r) (x .n)) 1 (written (x .line)) _ (c .offset2 .ensures) (c .before .before .if2 .taken))
+    (search needs) (search needs)
+    (λ c. unfold offset-name in let x = c .before .before .before .before .before .args in
+    numbered (λ (k : ℕ). offset (offset-name k) (x .d) (x .r) (x .n)) 2 (written (x .line)) _ (c .offset3 .ensures) (c .before .before .if3 .taken))
+    (search needs) (search needs)
+    (λ c. unfold offset-name in let x = c .before .before .before .before .before .before .args in
+    numbered (λ (k : ℕ). offset (offset-name k) (x .d) (x .r) (x .n)) 3 (written (x .line)) _ (c .offset4 .ensures) (c .before .before .if4 .taken))
+    (search needs) (search needs)
+    (λ c. unfold offset-name in let if2 = c .before .before .before .before .if2 in let if1 = c .before .before .before .before .before .if1 in
+    let x = c .before .before .before .before .before .before .args in
+    c .offset5 .ensures ∙ ap (λ (n : List ℕ). fitted (written (x .line) ++ offset n (x .d) (x .r) (x .n)))
+    (pick-f _ _ _ _ (ne-eqb _ _ (if1 .left))
+    (pick-f _ _ _ _ (ne-eqb _ _ (if2 .left))
+    (pick-f _ _ _ _ (ne-eqb _ _ (c .before .before .before .if3 .left)) (pick-f _ _ _ _ (ne-eqb _ _ (c .before .before .if4 .left)) refl))))))

@@ -13,4 +13,4 @@ returns c =
     joined (written (x .line)) (spec.single (x .name .now) (x .d)) (spec.next-register (x .r)) _ _ (c .before .single .ensures) (c .next-register .ensures)
 
 pub pair-spec : {M : Type 1} → statement M
-pair-spec = tie.close (tie.spec (λ c κs. search needs) (λ c κs. search needs) returns)
+pair-spec = tie.close (tie.spec (search needs) (search needs) returns)

@@ -13,4 +13,4 @@ returns c =
     joined (written (x .line)) (ascii "r") (decimal (x .r)) _ _ (c .before .put .ensures) (c .decimal .ensures)
 
 pub register-spec : {M : Type 1} → statement M
-register-spec = tie.close (tie.spec (λ c κs. search needs) (λ c κs. search needs) returns)
+register-spec = tie.close (tie.spec (search needs) (search needs) returns)

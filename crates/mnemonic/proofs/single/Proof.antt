@@ -13,4 +13,4 @@ returns c =
     joined (written (x .line)) (x .name .now) (spec.register (x .d)) _ _ (c .before .put-all .ensures) (c .register .ensures)
 
 pub single-spec : {M : Type 1} → statement M
-single-spec = tie.close (tie.spec (λ c κs. search needs) (λ c κs. search needs) returns)
+single-spec = tie.close (tie.spec (search needs) (search needs) returns)

@@ -13,4 +13,4 @@ returns c =
     joined (written (x .line)) (spec.pair (x .name .now) (x .d) (x .l)) (spec.next-register (x .r)) _ _ (c .before .pair .ensures) (c .next-register .ensures)
 
 pub triple-spec : {M : Type 1} → statement M
-triple-spec = tie.close (tie.spec (λ c κs. search needs) (λ c κs. search needs) returns)
+triple-spec = tie.close (tie.spec (search needs) (search needs) returns)

@@ -9,22 +9,7 @@ pub add-spec : {M : Type 1} → statement M
 add-spec =
     tie.close
     (tie.spec
-    (λ c. search needs)
-    (λ c. search needs)
-    (λ c. search needs)
-    (λ c. search needs)
-    (λ c. search needs)
-    (λ c. search needs)
-    (λ c. search needs)
-    (λ c. search needs)
-    (λ c. search needs)
-    (λ c. search needs)
-    (λ c. search needs)
-    (λ c. search needs)
-    (λ c. search needs)
-    (λ c. search needs)
-    (λ c. search needs)
-    (λ c. search needs)
-    (λ c. search needs)
-    (λ c. search needs)
-    (λ c. λ source. view-more source _ (c .args .k) (c .args .p) (c .args .n) (c .args .row) (c .args .sort) (c .args .word) (c .args .size) (record { places = c .pre .0; lengths = c .pre .1 .0; rows = c .pre .1 .1 .0; sorts = c .pre .1 .1 .1 .0; words = c .pre .1 .1 .1 .1 .0; sizes = c .pre .1 .1 .1 .1 .1 })))
+    (search needs) (search needs) (search needs) (search needs) (search needs) (search needs) (search needs) (search needs) (search needs) (search needs) (search needs) (search needs)
+    (search needs) (search needs) (search needs)
+    (λ c. λ source sizes size h. view-more source _ (c .args .k) (c .args .p) (c .args .n) (c .args .row) (c .args .sort) (c .args .word) size
+    (record { places = c .pre .0; lengths = c .pre .1 .0; rows = c .pre .1 .1 .0; sorts = c .pre .1 .1 .1 .0; words = c .pre .1 .1 .1 .1; sizes = h })))

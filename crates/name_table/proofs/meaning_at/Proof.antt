@@ -2,6 +2,7 @@
 -- Assumes nothing.
 use borrow.Author.Tests.{eq-eqb, ne-eqb}
 use borrow.Author.Needs.{needs}
+use Rattle.name_table.specs.Sorts as name-sort
 use Rattle.name_table.proofs.meaning_at.Statement.{statement}
 use Rattle.name_table.proofs.meaning_at.Tie as tie
 
@@ -9,13 +10,11 @@ pub meaning-at-spec : {M : Type 1} → statement M
 meaning-at-spec =
     tie.close
     (tie.spec
-    (λ c κs. search needs)
-    (λ c κs. search needs)
-    (λ c κs. search needs)
-    (λ c. rw (← c .before .before .before .number .ensures, eq-eqb (c .before .before .before .number .result) 1 (c .before .before .if1 .taken), c .before .number2 .ensures, c .number3 .ensures))
-    (λ c κs. search needs)
-    (λ c κs. search needs)
-    (λ c κs. search needs)
-    (λ c. rw (← c .before .before .before .before .before .number .ensures, ne-eqb (c .before .before .before .before .before .number .result) 1 (c .before .before .before .before .if1 .left), eq-eqb (c .before .before .before .before .before .number .result) 2 (c .before .before .before .if2 .taken), c .before .before .number4 .ensures, c .before .number5 .ensures, c .number6 .ensures))
-    (λ c κs. search needs)
-    (λ c. rw (← c .before .before .before .number .ensures, ne-eqb (c .before .before .before .number .result) 1 (c .before .before .if1 .left), ne-eqb (c .before .before .before .number .result) 2 (c .before .if2 .left), c .number7 .ensures)))
+    (search needs) (search needs)
+    (λ c. rw (← c .before .before .number .ensures, eq-eqb (c .before .before .number .result) name-sort.var (c .before .if1 .taken), c .number2 .ensures))
+    (search needs)
+    (λ c. let n = c .before .before .before .number in
+    rw (← n .ensures, ne-eqb (n .result) name-sort.var (c .before .before .if1 .left), eq-eqb (n .result) name-sort.array (c .before .if2 .taken), c .number3 .ensures))
+    (search needs)
+    (λ c. let n = c .before .before .before .number in
+    rw (← n .ensures, ne-eqb (n .result) name-sort.var (c .before .before .if1 .left), ne-eqb (n .result) name-sort.array (c .before .if2 .left), c .number4 .ensures)))

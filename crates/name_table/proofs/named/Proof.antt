@@ -11,13 +11,10 @@ pub named-spec : {M : Type 1} → statement M
 named-spec =
     tie.close
     (tie.spec
-    (λ c κs. search needs)
-    (λ c κs. search needs)
-    (λ c κs. search needs)
-    (λ c κs. search needs)
-    (λ c κs. search needs)
-    (λ c κs. search needs)
-    (λ c κs. search needs)
-    (λ c κs. search needs)
-    (λ c κs. search needs)
-    (λ c. let at = views.text (c .before .before .before .before .before .before .before .before .before .before .before .before .args .source .now) in c .equal .ensures ∙ ap₂ same (c .before .before .before .before .text .ensures ∙ ap₂ at (c .before .before .before .before .before .before .before .wide .ensures ∙ c .before .before .before .before .before .before .before .before .number .ensures) (c .before .before .before .before .before .wide2 .ensures ∙ c .before .before .before .before .before .before .number2 .ensures)) (c .before .text2 .ensures ∙ ap₂ at (c .before .before .before .wide3 .ensures) (c .before .before .wide4 .ensures))))
+    (search needs) (search needs) (search needs) (search needs) (search needs) (search needs) (search needs) (search needs) (search needs)
+    (λ c. let text = c .before .before .before .before .text in let wide2 = c .before .before .before .before .before .wide2 in
+    let number2 = c .before .before .before .before .before .before .number2 in let wide = c .before .before .before .before .before .before .before .wide in
+    let number = c .before .before .before .before .before .before .before .before .number in
+    let start = c .before .before .before .before .before .before .before .before .before .before .before .before in let at = views.text (start .args .source .now) in
+    c .equal .ensures ∙ ap₂ same (text .ensures ∙ ap₂ at (wide .ensures ∙ number .ensures) (wide2 .ensures ∙ number2 .ensures))
+    (c .before .text2 .ensures ∙ ap₂ at (c .before .before .before .wide3 .ensures) (c .before .before .wide4 .ensures))))

@@ -8,7 +8,5 @@ use Rattle.name_table.proofs.number.Tie as tie
 
 pub number-spec : {M : Type 1} → statement M
 number-spec = tie.close (tie.spec
-    (λ c. search needs)
-    (λ c. search needs)
-    (λ c. search needs)
+    (search needs) (search needs) (search needs)
     (λ c. sym (List·getD-eq-default (c .before .args .s .now) 0 (c .if1 .left))))

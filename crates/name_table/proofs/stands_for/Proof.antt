@@ -2,16 +2,19 @@
 -- Assumes nothing.
 use borrow.Author.Needs.{needs}
 use mathlib.Core.Path.{_≡_, refl, sym, ap, _∙_}
+use mathlib.Core.List.{List}
+use Prim.Native.Nat.{ℕ, _-_}
 use Rattle.names.specs.Scope.{lookup}
-use Rattle.name_table.specs.View.{text, view, meant, lookup-found, lookup-next, lookup-none}
+use Rattle.name_table.specs.View.{text, view, arrays, meant, bare, seen-at, lookup-found, lookup-next, lookup-none}
 use Rattle.name_table.proofs.stands_for.Statement.{statement}
 use Rattle.name_table.proofs.stands_for.Tie as tie
 
 abbrev Inv-loop : tie.InvT-loop
-Inv-loop source places lengths rows sorts words sizes count p n k₀ k = lookup (view source (record { places = places; lengths = lengths; rows = rows; sorts = sorts; words = words; sizes = sizes }) count) (text source p n) ≡ lookup (view source (record { places = places; lengths = lengths; rows = rows; sorts = sorts; words = words; sizes = sizes }) k) (text source p n)
+Inv-loop source places lengths rows sorts words count p n k₀ k =
+    (sizes : List ℕ) → let t = arrays places lengths rows sorts words sizes in lookup (view source t count) (text source p n) ≡ lookup (view source t k) (text source p n)
 
 abbrev μ-loop : tie.MeasureT-loop
-μ-loop source places lengths rows sorts words sizes count p n k₀ k = k
+μ-loop source places lengths rows sorts words count p n k₀ k = k
 
 pub stands-for-spec : {M : Type 1} → statement M
 stands-for-spec =
@@ -19,13 +22,13 @@ stands-for-spec =
     (tie.spec
     Inv-loop
     μ-loop
-    (λ c. refl)
-    (λ c. search needs)
-    (λ c κs. search needs)
-    (λ c. search needs)
-    (λ c κs. search needs)
-    (λ c. ap meant (c .meaning-at .ensures) ∙ sym (c .before .before .before .before .loop .inv ∙ lookup-found _ _ _ (c .before .before .before .before .loop .k) (c .before .before .before .loop-test .taken) (sym (c .before .before .named .ensures) ∙ c .before .if1 .taken)))
-    (λ c. search needs)
-    (λ c. search needs)
-    (λ c. c .before .before .before .loop .inv ∙ lookup-next _ _ _ (c .before .before .before .loop .k) (c .before .before .loop-test .taken) (sym (c .before .named .ensures) ∙ c .if1 .left))
-    (λ c. sym (c .before .loop .inv ∙ lookup-none _ _ _ (c .before .loop .k) (c .loop-test .left))))
+    (λ c. λ sizes. refl)
+    (search needs) (search needs) (search needs) (search needs)
+    (λ c. λ sizes. let l = c .before .before .before .before .loop in let x = c .before .before .before .before .before .before .before .before .before .before .before .args in
+    let t = arrays (x .name-places .now) (x .name-lengths .now) (x .name-rows .now) (x .sorts .now) (x .words .now) sizes in
+    ap meant (c .meaning-at .ensures) ∙ seen-at t (l .k - 1)
+    ∙ ap bare (sym (l .inv sizes ∙ lookup-found _ _ t (l .k) (c .before .before .before .loop-test .taken) (sym (c .before .before .named .ensures) ∙ c .before .if1 .taken))))
+    (search needs) (search needs)
+    (λ c. λ sizes. let l = c .before .before .before .loop in
+    l .inv sizes ∙ lookup-next _ _ _ (l .k) (c .before .before .loop-test .taken) (sym (c .before .named .ensures) ∙ c .if1 .left))
+    (λ c. λ sizes. ap bare (sym (c .before .loop .inv sizes ∙ lookup-none _ _ _ (c .before .loop .k) (c .loop-test .left)))))

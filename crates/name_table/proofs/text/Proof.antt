@@ -16,17 +16,11 @@ pub text-spec : {M : Type 1} → statement M
 text-spec =
     tie.close
     (tie.spec
-    (λ c. search needs)
-    (λ c. search needs)
-    (λ c. search needs)
+    (search needs) (search needs) (search needs)
     (λ c. rw (drop-of-length-le (c .before .before .args .source .now) (c .before .if1 .taken)) (sym (take-nil (c .before .before .args .n))))
-    (λ c. search needs)
-    (λ c. search needs)
-    (λ c. search needs)
-    (λ c. search needs)
-    (λ c. search needs)
-    (λ c. let q : c .before .before .before .args .p + c .before .before .before .args .n - c .before .before .before .args .p ≡ c .before .before .before .args .n = omega arith in ap (λ (k : ℕ). take k (drop (c .before .before .before .args .p) (c .before .before .before .args .source .now))) q)
-    (λ c. search needs)
-    (λ c. search needs)
-    (λ c. search needs)
-    (λ c. let d = length-drop (c .before .before .before .args .p) (c .before .before .before .args .source .now) in let r = drop (c .before .before .before .args .p) (c .before .before .before .args .source .now) in take-all (length (c .before .before .before .args .source .now) - c .before .before .before .args .p) r (omega arith) ∙ sym (take-all (c .before .before .before .args .n) r (omega arith))))
+    (search needs) (search needs) (search needs) (search needs) (search needs)
+    (λ c. let start = c .before .before .before in let q : start .args .p + start .args .n - start .args .p ≡ start .args .n = omega arith in
+    ap (λ (k : ℕ). take k (drop (start .args .p) (start .args .source .now))) q)
+    (search needs) (search needs) (search needs)
+    (λ c. let start = c .before .before .before in let d = length-drop (start .args .p) (start .args .source .now) in let r = drop (start .args .p) (start .args .source .now) in
+    take-all (length (start .args .source .now) - start .args .p) r (omega arith) ∙ sym (take-all (start .args .n) r (omega arith))))

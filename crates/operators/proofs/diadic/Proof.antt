@@ -12,6 +12,10 @@ diadic-spec =
     (tie.spec
     (λ c κs. unfold work-diadic-code in first _ (c .before .before .pre))
     (λ c κs. unfold work-diadic-code in first _ (rest (c .before .before .before .put-three .ensures) (c .before .before .before .before .before .before .pre)))
-    (λ c κs. unfold work-diadic-code in (rest (c .before .before .before .diadic-instructions .ensures) (rest (c .before .before .before .before .before .before .before .put-three .ensures) (c .before .before .before .before .before .before .before .before .before .before .pre))))
-    (λ c. search needs)
-    (λ c. unfold work-diadic-code in then (c .before .before .before .before .before .before .before .before .before .before .put-three .ensures) (then (c .before .before .before .before .before .before .diadic-instructions .ensures) (c .before .before .put .ensures))))
+    (λ c κs. unfold work-diadic-code in let put-three = c .before .before .before .before .before .before .before .put-three in
+    let start = c .before .before .before .before .before .before .before .before .before .before in
+    (rest (c .before .before .before .diadic-instructions .ensures) (rest (put-three .ensures) (start .pre))))
+    (search needs)
+    (λ c. unfold work-diadic-code in let diadic-instructions = c .before .before .before .before .before .before .diadic-instructions in
+    let put-three = c .before .before .before .before .before .before .before .before .before .before .put-three in
+    then (put-three .ensures) (then (diadic-instructions .ensures) (c .before .before .put .ensures))))

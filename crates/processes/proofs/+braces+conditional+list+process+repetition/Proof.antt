@@ -5,6 +5,7 @@ use mathlib.Core.Path.{sym, subst, _∙_}
 use native.Mathlib.Omega.{arith}
 use borrow.Author.Needs.{needs}
 use lib.ListN.{length}
+use Rattle.spelling.specs.Kinds as kind
 use Rattle.grammar.specs.Unread.{inside}
 use Rattle.expressions.specs.Reads.{Reads}
 use Rattle.expressions.specs.Parts.{within-of, ready-of, shallow-of, shallow-after}
@@ -12,7 +13,8 @@ use Rattle.expressions.specs.declared.Read.{Read}
 use Rattle.expressions.specs.declared.Read.the-variants.{Done, Bad}
 use Rattle.processes.specs.Forms.{process-form}
 use Rattle.processes.specs.Lists.{Kept, kept-all, kept-then, Resumes, resumes-start, resumes-bad, resumes-stop, resumes-last, resumes-more}
-use Rattle.processes.specs.Processes.{if-form, then-form, while-form, close-if, close-then, close-while, process-skip, process-stop, process-empty, process-none, process-comments, process-braces, while-bad, process-while, if-bad, then-bad, process-if}
+use Rattle.processes.specs.Processes.{if-form, then-form, while-form, close-if, close-then, close-while, process-skip, process-stop, process-empty, process-none, process-comments}
+use Rattle.processes.specs.Processes.{process-braces, while-bad, process-while, if-bad, then-bad, process-if}
 use Prim.Native.Nat.{ℕ, _<_, _≤_, _+_, _*_, _-_}
 use borrow.Fn.Kinds.{In}
 use borrow.Fn.PlainCycle.{Measures, is, falls, and}
@@ -99,32 +101,105 @@ abbrev braces-calls : ℕ → braces-lts.Claims
 braces-calls t = (kind-at-reads.Asked, kind-at-reads.Learnt, put-reads.Asked, put-reads.Learnt, list-below t, list.Post, deepen-reads.Asked, deepen-reads.Learnt)
 
 abbrev conditional-calls : ℕ → conditional-lts.Claims
-conditional-calls t = (expression-reads.Asked, expression-reads.Learnt, close-reads.Asked, close-reads.Learnt, process-below t, process.Post, add-row-of-two-reads.Asked, add-row-of-two-reads.Learnt, larger-reads.Asked, larger-reads.Learnt, deepen-reads.Asked, deepen-reads.Learnt)
+conditional-calls t = (
+  expression-reads.Asked,
+  expression-reads.Learnt,
+  close-reads.Asked,
+  close-reads.Learnt,
+  process-below t,
+  process.Post,
+  add-row-of-two-reads.Asked,
+  add-row-of-two-reads.Learnt,
+  larger-reads.Asked,
+  larger-reads.Learnt,
+  deepen-reads.Asked,
+  deepen-reads.Learnt,
+)
 
 abbrev list-calls : ℕ → list-lts.Claims
-list-calls t = (process-below t, process.Post, larger-reads.Asked, larger-reads.Learnt, kind-at-reads.Asked, kind-at-reads.Learnt, join-reads.Asked, join-reads.Learnt, push-reads.Asked, push-reads.Learnt)
+list-calls t = (
+  process-below t,
+  process.Post,
+  larger-reads.Asked,
+  larger-reads.Learnt,
+  kind-at-reads.Asked,
+  kind-at-reads.Learnt,
+  join-reads.Asked,
+  join-reads.Learnt,
+  push-reads.Asked,
+  push-reads.Learnt,
+)
 
 abbrev process-calls : ℕ → process-lts.Claims
-process-calls t = (past-comments-reads.Asked, past-comments-reads.Learnt, kind-at-reads.Asked, kind-at-reads.Learnt, put-reads.Asked, put-reads.Learnt, assignment-reads.Asked, assignment-reads.Learnt, braces-below t, braces.Post, conditional-below t, conditional.Post, repetition-below t, repetition.Post)
+process-calls t = (
+  past-comments-reads.Asked,
+  past-comments-reads.Learnt,
+  kind-at-reads.Asked,
+  kind-at-reads.Learnt,
+  put-reads.Asked,
+  put-reads.Learnt,
+  assignment-reads.Asked,
+  assignment-reads.Learnt,
+  braces-below t,
+  braces.Post,
+  conditional-below t,
+  conditional.Post,
+  repetition-below t,
+  repetition.Post,
+)
 
 abbrev repetition-calls : ℕ → repetition-lts.Claims
-repetition-calls t = (expression-reads.Asked, expression-reads.Learnt, close-reads.Asked, close-reads.Learnt, process-below t, process.Post, add-row-reads.Asked, add-row-reads.Learnt, deepen-reads.Asked, deepen-reads.Learnt)
+repetition-calls t = (
+  expression-reads.Asked,
+  expression-reads.Learnt,
+  close-reads.Asked,
+  close-reads.Learnt,
+  process-below t,
+  process.Post,
+  add-row-reads.Asked,
+  add-row-reads.Learnt,
+  deepen-reads.Asked,
+  deepen-reads.Learnt,
+)
 
 -- what was read before each match
-repetition-has : (t : ℕ) (c : repetition-lts.After-j (repetition-calls t) (repetition-at t) repetition.Post) → Reads while-form (c .before .before .before .before .before .before .before .args .kinds .now) (c .before .before .before .before .before .before .before .args .values .now) (c .before .before .before .before .before .before .before .args .i + 1) (c .before .before .before .before .before .before .before .args .n) (c .before .before .before .before .before .before .before .args .table .now) (Done (c .j .given .0 .0) (c .j .given .0 .1 .0) (c .j .given .0 .1 .1 .0) (c .j .given .0 .1 .1 .1 .0)) (c .before .before .before .expression .last .1 .1 .0)
-repetition-has t c = subst (λ (r : Read). Reads while-form (c .before .before .before .before .before .before .before .args .kinds .now) (c .before .before .before .before .before .before .before .args .values .now) (c .before .before .before .before .before .before .before .args .i + 1) (c .before .before .before .before .before .before .before .args .n) (c .before .before .before .before .before .before .before .args .table .now) r (c .before .before .before .expression .last .1 .1 .0))
+repetition-has : (t : ℕ) (c : repetition-lts.After-j (repetition-calls t) (repetition-at t) repetition.Post)
+    → let start = c .before .before .before .before .before .before .before in
+    Reads while-form (start .args .kinds .now) (start .args .values .now) (start .args .i + 1) (start .args .n) (start .args .table .now)
+    (Done (c .j .given .0 .0) (c .j .given .0 .1 .0) (c .j .given .0 .1 .1 .0) (c .j .given .0 .1 .1 .1 .0)) (c .before .before .before .expression .last .1 .1 .0)
+repetition-has t c = let expression = c .before .before .before .expression in let start = c .before .before .before .before .before .before .before in
+    subst
+    (λ (r : Read). Reads while-form (start .args .kinds .now) (start .args .values .now) (start .args .i + 1) (start .args .n) (start .args .table .now) r (expression .last .1 .1 .0))
     (sym (c .before .before .close .ensures) ∙ c .j .given .1)
-    (close-while (c .before .before .before .before .before .before .before .args .kinds .now) (c .before .before .before .before .before .before .before .args .values .now) (c .before .before .before .before .before .before .before .args .i + 1) (c .before .before .before .before .before .before .before .args .n) (c .before .before .before .before .before .before .before .args .table .now) (c .before .before .before .expression .result) (c .before .before .before .expression .last .1 .1 .0) (c .before .before .before .expression .ensures))
+    (close-while (start .args .kinds .now) (start .args .values .now) (start .args .i + 1) (start .args .n) (start .args .table .now) (expression .result) (expression .last .1 .1 .0)
+    (expression .ensures))
 
-conditional-has : (t : ℕ) (c : conditional-lts.After-j (conditional-calls t) (conditional-at t) conditional.Post) → Reads if-form (c .before .before .before .before .before .before .before .args .kinds .now) (c .before .before .before .before .before .before .before .args .values .now) (c .before .before .before .before .before .before .before .args .i + 1) (c .before .before .before .before .before .before .before .args .n) (c .before .before .before .before .before .before .before .args .table .now) (Done (c .j .given .0 .0) (c .j .given .0 .1 .0) (c .j .given .0 .1 .1 .0) (c .j .given .0 .1 .1 .1 .0)) (c .before .before .before .expression .last .1 .1 .0)
-conditional-has t c = subst (λ (r : Read). Reads if-form (c .before .before .before .before .before .before .before .args .kinds .now) (c .before .before .before .before .before .before .before .args .values .now) (c .before .before .before .before .before .before .before .args .i + 1) (c .before .before .before .before .before .before .before .args .n) (c .before .before .before .before .before .before .before .args .table .now) r (c .before .before .before .expression .last .1 .1 .0))
+conditional-has : (t : ℕ) (c : conditional-lts.After-j (conditional-calls t) (conditional-at t) conditional.Post)
+    → let start = c .before .before .before .before .before .before .before in
+    Reads if-form (start .args .kinds .now) (start .args .values .now) (start .args .i + 1) (start .args .n) (start .args .table .now)
+    (Done (c .j .given .0 .0) (c .j .given .0 .1 .0) (c .j .given .0 .1 .1 .0) (c .j .given .0 .1 .1 .1 .0)) (c .before .before .before .expression .last .1 .1 .0)
+conditional-has t c = let expression = c .before .before .before .expression in let start = c .before .before .before .before .before .before .before in
+    subst
+    (λ (r : Read). Reads if-form (start .args .kinds .now) (start .args .values .now) (start .args .i + 1) (start .args .n) (start .args .table .now) r (expression .last .1 .1 .0))
     (sym (c .before .before .close .ensures) ∙ c .j .given .1)
-    (close-if (c .before .before .before .before .before .before .before .args .kinds .now) (c .before .before .before .before .before .before .before .args .values .now) (c .before .before .before .before .before .before .before .args .i + 1) (c .before .before .before .before .before .before .before .args .n) (c .before .before .before .before .before .before .before .args .table .now) (c .before .before .before .expression .result) (c .before .before .before .expression .last .1 .1 .0) (c .before .before .before .expression .ensures))
+    (close-if (start .args .kinds .now) (start .args .values .now) (start .args .i + 1) (start .args .n) (start .args .table .now) (expression .result) (expression .last .1 .1 .0)
+    (expression .ensures))
 
-conditional-then : (t : ℕ) (c : conditional-lts.After-k (conditional-calls t) (conditional-at t) conditional.Post) → Reads (then-form (conditional-has t (c .before .before .before .before .before .before .before) .1 .tree)) (c .before .before .before .before .before .before .before .before .before .before .before .before .before .before .args .kinds .now) (c .before .before .before .before .before .before .before .before .before .before .before .before .before .before .args .values .now) (c .before .before .before .before .before .before .before .j .given .0 .0) (c .before .before .before .before .before .before .before .j .given .0 .1 .0) (c .before .before .before .before .before .before .before .before .before .before .expression .last .1 .1 .0) (Done (c .k .given .0 .0) (c .k .given .0 .1 .0) (c .k .given .0 .1 .1 .0) (c .k .given .0 .1 .1 .1 .0)) (c .before .before .before .process .last .1 .1 .0)
-conditional-then t c = subst (λ (r : Read). Reads (then-form (conditional-has t (c .before .before .before .before .before .before .before) .1 .tree)) (c .before .before .before .before .before .before .before .before .before .before .before .before .before .before .args .kinds .now) (c .before .before .before .before .before .before .before .before .before .before .before .before .before .before .args .values .now) (c .before .before .before .before .before .before .before .j .given .0 .0) (c .before .before .before .before .before .before .before .j .given .0 .1 .0) (c .before .before .before .before .before .before .before .before .before .before .expression .last .1 .1 .0) r (c .before .before .before .process .last .1 .1 .0))
+conditional-then : (t : ℕ) (c : conditional-lts.After-k (conditional-calls t) (conditional-at t) conditional.Post)
+    → let read = c .before .before .before .before .before .before .before .j in
+    let expression = c .before .before .before .before .before .before .before .before .before .before .expression in
+    let start = c .before .before .before .before .before .before .before .before .before .before .before .before .before .before in
+    Reads (then-form (conditional-has t (c .before .before .before .before .before .before .before) .1 .tree)) (start .args .kinds .now) (start .args .values .now) (read .given .0 .0)
+    (read .given .0 .1 .0) (expression .last .1 .1 .0) (Done (c .k .given .0 .0) (c .k .given .0 .1 .0) (c .k .given .0 .1 .1 .0) (c .k .given .0 .1 .1 .1 .0))
+    (c .before .before .before .process .last .1 .1 .0)
+conditional-then t c = let process = c .before .before .before .process in let read = c .before .before .before .before .before .before .before .j in
+    let expression = c .before .before .before .before .before .before .before .before .before .before .expression in
+    let start = c .before .before .before .before .before .before .before .before .before .before .before .before .before .before in
+    subst (λ (r : Read). Reads (then-form (conditional-has t (c .before .before .before .before .before .before .before) .1 .tree)) (start .args .kinds .now) (start .args .values .now)
+    (read .given .0 .0) (read .given .0 .1 .0) (expression .last .1 .1 .0) r (process .last .1 .1 .0))
     (sym (c .before .before .close2 .ensures) ∙ c .k .given .1)
-    (close-then (c .before .before .before .before .before .before .before .before .before .before .before .before .before .before .args .kinds .now) (c .before .before .before .before .before .before .before .before .before .before .before .before .before .before .args .values .now) (c .before .before .before .before .before .before .before .j .given .0 .0) (c .before .before .before .before .before .before .before .j .given .0 .1 .0) (c .before .before .before .before .before .before .before .before .before .before .expression .last .1 .1 .0) (c .before .before .before .process .result) (c .before .before .before .process .last .1 .1 .0) (conditional-has t (c .before .before .before .before .before .before .before) .1 .tree) (c .before .before .before .process .ensures .0))
+    (close-then (start .args .kinds .now) (start .args .values .now) (read .given .0 .0) (read .given .0 .1 .0) (expression .last .1 .1 .0) (process .result) (process .last .1 .1 .0)
+    (conditional-has t (c .before .before .before .before .before .before .before) .1 .tree) (process .ensures .0))
 
 abbrev list-Inv-loop : list-lts.InvT-loop
 list-Inv-loop kinds values table₀ pending₀ n i top at₀ row₀ count₀ depth₀ deepest₀ table pending at row count depth deepest =
@@ -134,8 +209,12 @@ abbrev list-μ-loop : list-lts.MeasureT-loop
 list-μ-loop kinds values table₀ pending₀ n i top at₀ row₀ count₀ depth₀ deepest₀ table pending at row count depth deepest =
     length kinds - at
 
-list-has : (t : ℕ) (c : list-lts.After-j (list-calls t) (list-at t) list.Post list-Inv-loop list-μ-loop) → Reads process-form (c .before .before .before .before .before .before .before .before .args .kinds .now) (c .before .before .before .before .before .before .before .before .args .values .now) (c .before .before .before .before .before .loop .at) (c .before .before .before .before .before .loop .row) (c .before .before .before .before .before .loop .table) (Done (c .j .given .0 .0) (c .j .given .0 .1 .0) (c .j .given .0 .1 .1 .0) (c .j .given .0 .1 .1 .1 .0)) (c .before .before .process .last .1 .1 .0)
-list-has t c = subst (λ (r : Read). Reads process-form (c .before .before .before .before .before .before .before .before .args .kinds .now) (c .before .before .before .before .before .before .before .before .args .values .now) (c .before .before .before .before .before .loop .at) (c .before .before .before .before .before .loop .row) (c .before .before .before .before .before .loop .table) r (c .before .before .process .last .1 .1 .0))
+list-has : (t : ℕ) (c : list-lts.After-j (list-calls t) (list-at t) list.Post list-Inv-loop list-μ-loop)
+    → let turn = c .before .before .before .before .before .loop in let start = c .before .before .before .before .before .before .before .before in
+    Reads process-form (start .args .kinds .now) (start .args .values .now) (turn .at) (turn .row) (turn .table)
+    (Done (c .j .given .0 .0) (c .j .given .0 .1 .0) (c .j .given .0 .1 .1 .0) (c .j .given .0 .1 .1 .1 .0)) (c .before .before .process .last .1 .1 .0)
+list-has t c = let turn = c .before .before .before .before .before .loop in let start = c .before .before .before .before .before .before .before .before in
+    subst (λ (r : Read). Reads process-form (start .args .kinds .now) (start .args .values .now) (turn .at) (turn .row) (turn .table) r (c .before .before .process .last .1 .1 .0))
     (c .j .given .1)
     (c .before .before .process .ensures .0)
 
@@ -144,39 +223,113 @@ pub +braces+conditional+list+process+repetition-spec : {M : Type 1} → statemen
     close μ-braces μ-conditional μ-list μ-process μ-repetition (λ t. braces-lts.spec (braces-calls t)
     (braces-at t)
     braces.Post
-    (λ c. let s = c .before .before in let f = s .pre .1 .0 in let l = inside (s .args .kinds .now) (s .args .i) 8 (s .pre .1 .1) (omega arith) in omega arith)
-    (λ c κs. search needs)
-    (λ c κs. let s = c .before .before .before .before .before in let f = s .pre .1 .0 in let l = inside (s .args .kinds .now) (s .args .i) 8 (s .pre .1 .1) (omega arith) in omega arith)
-    (λ c. let s = c .before .before .before .before .before .before in let f = s .pre .1 .0 in let l = inside (s .args .kinds .now) (s .args .i) 8 (s .pre .1 .1) (omega arith) in omega arith)
-    (λ c. let s = c .before .before .before .before .before .before in let f = s .pre .1 .0 in let l = inside (s .args .kinds .now) (s .args .i) 8 (s .pre .1 .1) (omega arith) in omega arith)
-    (λ c. let s = c .before .before .before .before .before .before in let f = s .pre .1 .0 in let l = inside (s .args .kinds .now) (s .args .i) 8 (s .pre .1 .1) (omega arith) in let k = c .before .before .before .kind-at .ensures in let e = sym k ∙ c .before .before .if1 .taken in (process-empty (s .args .kinds .now) (s .args .values .now) (s .args .i) (s .args .n) (s .args .table .now) (c .put .last .0) (s .pre .1 .1) e (c .put .ensures), kept-all _ _))
-    (λ c. let s = c .before .before .before .before .before .before in let f = s .pre .1 .0 in let l = inside (s .args .kinds .now) (s .args .i) 8 (s .pre .1 .1) (omega arith) in omega arith)
-    (λ c κs. let s = c .before .before .before .before .before .before in let f = s .pre .1 .0 in let l = inside (s .args .kinds .now) (s .args .i) 8 (s .pre .1 .1) (omega arith) in omega (arith, s .pre .1 .2))
-    (λ c κs. let s = c .before .before .before .before .before .before .before in let f = s .pre .1 .0 in let l = inside (s .args .kinds .now) (s .args .i) 8 (s .pre .1 .1) (omega arith) in (shallow-of (s .args .kinds .now) (s .args .i + 1) (s .args .n) (c .list .result) (c .list .ensures .0 .0) (f .small), omega arith, omega arith, omega arith, omega arith))
-    (λ c. let s = c .before .before .before .before .before .before .before .before in let f = s .pre .1 .0 in let l = inside (s .args .kinds .now) (s .args .i) 8 (s .pre .1 .1) (omega arith) in let k = c .before .before .before .before .before .kind-at .ensures in (rw (c .deepen .ensures) (process-braces (s .args .kinds .now) (s .args .values .now) (s .args .i) (s .args .n) (s .args .table .now) (c .before .list .result) _ (s .pre .1 .1) (λ e. c .before .before .before .before .if1 .left (k ∙ e)) (c .before .list .ensures .0)), c .before .list .ensures .1)))
+    (λ c. let s = c .before .before in let f = s .pre .1 .0 in let l = inside (s .args .kinds .now) (s .args .i) kind.open-brace (s .pre .1 .1) (omega arith) in omega arith)
+    (search needs)
+    (λ c κs. let s = c .before .before .before .before .before in let f = s .pre .1 .0 in let l = inside (s .args .kinds .now) (s .args .i) kind.open-brace (s .pre .1 .1) (omega arith) in omega arith)
+    (λ c. let s = c .before .before .before .before .before .before in let f = s .pre .1 .0 in
+    let l = inside (s .args .kinds .now) (s .args .i) kind.open-brace (s .pre .1 .1) (omega arith) in omega arith)
+    (λ c. let s = c .before .before .before .before .before .before in let f = s .pre .1 .0 in
+    let l = inside (s .args .kinds .now) (s .args .i) kind.open-brace (s .pre .1 .1) (omega arith) in omega arith)
+    (λ c. let s = c .before .before .before .before .before .before in let f = s .pre .1 .0 in
+    let l = inside (s .args .kinds .now) (s .args .i) kind.open-brace (s .pre .1 .1) (omega arith) in let k = c .before .before .before .kind-at .ensures in
+    let e = sym k ∙ c .before .before .if1 .taken in
+    (process-empty (s .args .kinds .now) (s .args .values .now) (s .args .i) (s .args .n) (s .args .table .now) (c .put .last .0) (s .pre .1 .1) e (c .put .ensures), kept-all _ _))
+    (λ c. let s = c .before .before .before .before .before .before in let f = s .pre .1 .0 in
+    let l = inside (s .args .kinds .now) (s .args .i) kind.open-brace (s .pre .1 .1) (omega arith) in omega arith)
+    (λ c κs. let s = c .before .before .before .before .before .before in let f = s .pre .1 .0 in
+    let l = inside (s .args .kinds .now) (s .args .i) kind.open-brace (s .pre .1 .1) (omega arith) in omega (arith, s .pre .1 .2))
+    (λ c κs. let s = c .before .before .before .before .before .before .before in let f = s .pre .1 .0 in
+    let l = inside (s .args .kinds .now) (s .args .i) kind.open-brace (s .pre .1 .1) (omega arith) in
+    (shallow-of (s .args .kinds .now) (s .args .i + 1) (s .args .n) (c .list .result) (c .list .ensures .0 .0) (f .small), omega arith, omega arith, omega arith, omega arith))
+    (λ c. let if1 = c .before .before .before .before .if1 in let kind-at = c .before .before .before .before .before .kind-at in
+    let s = c .before .before .before .before .before .before .before .before in let f = s .pre .1 .0 in
+    let l = inside (s .args .kinds .now) (s .args .i) kind.open-brace (s .pre .1 .1) (omega arith) in let k = kind-at .ensures in (
+      rw (c .deepen .ensures)
+          (process-braces (s .args .kinds .now) (s .args .values .now) (s .args .i) (s .args .n) (s .args .table .now) (c .before .list .result) _ (s .pre .1 .1) (λ e. if1 .left (k ∙ e))
+          (c .before .list .ensures .0)),
+      c .before .list .ensures .1,
+    )))
     (λ t. conditional-lts.spec (conditional-calls t)
     (conditional-at t)
     conditional.Post
-    (λ c. let s = c .before .before .before in let f = s .pre .1 .0 in let l = inside (s .args .kinds .now) (s .args .i) 18 (s .pre .1 .1) (omega arith) in omega arith)
-    (λ c κs. let s = c .before .before .before in let f = s .pre .1 .0 in let l = inside (s .args .kinds .now) (s .args .i) 18 (s .pre .1 .1) (omega arith) in omega arith)
-    (λ c κs. let s = c .before .before .before .before in let f = s .pre .1 .0 in let l = inside (s .args .kinds .now) (s .args .i) 18 (s .pre .1 .1) (omega arith) in (within-of (s .args .kinds .now) (s .args .i + 1) (s .args .n) (c .expression .result) (c .expression .ensures .0), omega arith))
-    (λ c. search needs)
-    (λ c. search needs)
-    (λ c κs. let s = c .before .before .before .before .before .before .before .before .before .before in let f = s .pre .1 .0 in let l = inside (s .args .kinds .now) (s .args .i) 18 (s .pre .1 .1) (omega arith) in let h = conditional-has t (c .before .before .before) in let w = h .0 in omega (arith, s .pre .1 .2))
-    (λ c κs. let s = c .before .before .before .before .before .before .before .before .before .before .before in let f = s .pre .1 .0 in let l = inside (s .args .kinds .now) (s .args .i) 18 (s .pre .1 .1) (omega arith) in let h = conditional-has t (c .before .before .before .before) in let w = h .0 in (within-of (s .args .kinds .now) (c .before .before .before .before .j .given .0 .0) (c .before .before .before .before .j .given .0 .1 .0) (c .process .result) (c .process .ensures .0 .0), omega arith))
-    (λ c. search needs)
-    (λ c. search needs)
-    (λ c κs. let s = c .before .before .before .before .before .before .before .before .before .before .before .before .before .before .before .before .before in let f = s .pre .1 .0 in let l = inside (s .args .kinds .now) (s .args .i) 18 (s .pre .1 .1) (omega arith) in let h = conditional-has t (c .before .before .before .before .before .before .before .before .before .before) in let w = h .0 in let g = conditional-then t (c .before .before .before) in let u = g .0 in omega (arith, s .pre .1 .2))
-    (λ c. let s = c .before .before .before .before .before .before .before .before .before .before .before .before .before .before .before .before .before .before .before in let f = s .pre .1 .0 in let l = inside (s .args .kinds .now) (s .args .i) 18 (s .pre .1 .1) (omega arith) in let h = conditional-has t (c .before .before .before .before .before .before .before .before .before .before .before .before) in let w = h .0 in omega arith)
-    (λ c. let s = c .before .before .before .before .before .before .before .before .before .before .before .before .before .before .before .before .before .before .before in let f = s .pre .1 .0 in let l = inside (s .args .kinds .now) (s .args .i) 18 (s .pre .1 .1) (omega arith) in let h = conditional-has t (c .before .before .before .before .before .before .before .before .before .before .before .before) in let w = h .0 in omega arith)
-    (λ c. let s = c .before .before .before .before .before .before .before .before .before .before .before .before .before .before .before .before .before .before .before in let f = s .pre .1 .0 in let l = inside (s .args .kinds .now) (s .args .i) 18 (s .pre .1 .1) (omega arith) in let h = conditional-has t (c .before .before .before .before .before .before .before .before .before .before .before .before) in let w = h .0 in let g = conditional-then t (c .before .before .before .before .before) in let u = g .0 in omega arith)
-    (λ c. let s = c .before .before .before .before .before .before .before .before .before .before .before .before .before .before .before .before .before .before .before in let f = s .pre .1 .0 in let l = inside (s .args .kinds .now) (s .args .i) 18 (s .pre .1 .1) (omega arith) in let h = conditional-has t (c .before .before .before .before .before .before .before .before .before .before .before .before) in let w = h .0 in let g = conditional-then t (c .before .before .before .before .before) in let u = g .0 in omega arith)
-    (λ c κs. let s = c .before .before .before .before .before .before .before .before .before .before .before .before .before .before .before .before .before .before .before in let f = s .pre .1 .0 in let l = inside (s .args .kinds .now) (s .args .i) 18 (s .pre .1 .1) (omega arith) in let h = conditional-has t (c .before .before .before .before .before .before .before .before .before .before .before .before) in let w = h .0 in let g = conditional-then t (c .before .before .before .before .before) in let u = g .0 in ready-of (s .args .kinds .now) (c .before .before .before .before .before .k .given .0 .0) (c .before .before .before .before .before .k .given .0 .1 .0) (c .before .process2 .result) (c .before .process2 .ensures .0 .0) (omega arith) (f .small))
-    (λ c κs. search needs)
-    (λ c κs. let s = c .before .before .before .before .before .before .before .before .before .before .before .before .before .before .before .before .before .before .before .before .before in let f = s .pre .1 .0 in let l = inside (s .args .kinds .now) (s .args .i) 18 (s .pre .1 .1) (omega arith) in let h = conditional-has t (c .before .before .before .before .before .before .before .before .before .before .before .before .before .before) in let w = h .0 in let g = conditional-then t (c .before .before .before .before .before .before .before) in let u = g .0 in let q = c .larger .ensures in (shallow-after (s .args .kinds .now) (c .before .before .before .before .before .before .before .k .given .0 .0) (c .before .before .before .before .before .before .before .k .given .0 .1 .0) (c .before .before .before .process2 .result) _ (c .before .before .before .process2 .ensures .0 .0) (f .small) (c .before .add-row-of-two .ensures .0), omega arith, omega arith, omega arith, omega arith))
-    (λ c. let s = c .before .before .before .before .before .before .before .before in let f = s .pre .1 .0 in let l = inside (s .args .kinds .now) (s .args .i) 18 (s .pre .1 .1) (omega arith) in (if-bad (s .args .kinds .now) (s .args .values .now) (s .args .i) (s .args .n) (s .args .table .now) (s .pre .1 .1) (c .before .x .given .0 .0) (c .before .before .before .before .expression .last .1 .1 .0) (subst (λ (r : Read). Reads if-form (s .args .kinds .now) (s .args .values .now) (s .args .i + 1) (s .args .n) (s .args .table .now) r (c .before .before .before .before .expression .last .1 .1 .0)) (sym (c .before .before .before .close .ensures) ∙ c .before .x .given .1) (close-if (s .args .kinds .now) (s .args .values .now) (s .args .i + 1) (s .args .n) (s .args .table .now) (c .before .before .before .before .expression .result) (c .before .before .before .before .expression .last .1 .1 .0) (c .before .before .before .before .expression .ensures))), kept-all _ _))
-    (λ c. let s = c .before .before .before .before .before .before .before .before .before .before .before .before .before .before .before in let f = s .pre .1 .0 in let l = inside (s .args .kinds .now) (s .args .i) 18 (s .pre .1 .1) (omega arith) in let h = conditional-has t (c .before .before .before .before .before .before .before .before) in let w = h .0 in (then-bad (s .args .kinds .now) (s .args .values .now) (s .args .i) (s .args .n) (s .args .table .now) (s .pre .1 .1) _ _ _ _ _ h (c .before .x2 .given .0 .0) (c .before .before .before .before .process .last .1 .1 .0) (subst (λ (r : Read). Reads (then-form (h .1 .tree)) (s .args .kinds .now) (s .args .values .now) (c .before .before .before .before .before .before .before .before .j .given .0 .0) (c .before .before .before .before .before .before .before .before .j .given .0 .1 .0) (c .before .before .before .before .before .before .before .before .before .before .before .expression .last .1 .1 .0) r (c .before .before .before .before .process .last .1 .1 .0)) (sym (c .before .before .before .close2 .ensures) ∙ c .before .x2 .given .1) (close-then (s .args .kinds .now) (s .args .values .now) (c .before .before .before .before .before .before .before .before .j .given .0 .0) (c .before .before .before .before .before .before .before .before .j .given .0 .1 .0) (c .before .before .before .before .before .before .before .before .before .before .before .expression .last .1 .1 .0) (c .before .before .before .before .process .result) (c .before .before .before .before .process .last .1 .1 .0) (h .1 .tree) (c .before .before .before .before .process .ensures .0))), c .before .before .before .before .process .ensures .1))
-    (λ c. let s = c .before .before .before .before .before .before .before .before .before .before .before .before .before .before .before .before .before .before .before .before .before .before in let f = s .pre .1 .0 in let l = inside (s .args .kinds .now) (s .args .i) 18 (s .pre .1 .1) (omega arith) in let h = conditional-has t (c .before .before .before .before .before .before .before .before .before .before .before .before .before .before .before) in let w = h .0 in let g = conditional-then t (c .before .before .before .before .before .before .before .before) in let u = g .0 in (rw (c .deepen .ensures, c .before .before .add-row-of-two .ensures .0, c .before .before .add-row-of-two .ensures .1, c .before .larger .ensures) (process-if (s .args .kinds .now) (s .args .values .now) (s .args .i) (s .args .n) (s .args .table .now) (s .pre .1 .1) _ _ _ _ _ h _ _ _ _ _ g (c .before .before .before .before .process2 .result) _ (c .before .before .before .before .process2 .ensures .0)), kept-then _ _ _ (s .args .top) (s .args .top) (omega arith) (c .before .before .before .before .before .before .before .before .before .before .before .process .ensures .1) (c .before .before .before .before .process2 .ensures .1))))
+    (λ c. let s = c .before .before .before in let f = s .pre .1 .0 in let l = inside (s .args .kinds .now) (s .args .i) kind.if (s .pre .1 .1) (omega arith) in omega arith)
+    (λ c κs. let s = c .before .before .before in let f = s .pre .1 .0 in let l = inside (s .args .kinds .now) (s .args .i) kind.if (s .pre .1 .1) (omega arith) in omega arith)
+    (λ c κs. let s = c .before .before .before .before in let f = s .pre .1 .0 in let l = inside (s .args .kinds .now) (s .args .i) kind.if (s .pre .1 .1) (omega arith) in
+    (within-of (s .args .kinds .now) (s .args .i + 1) (s .args .n) (c .expression .result) (c .expression .ensures .0), omega arith))
+    (search needs) (search needs)
+    (λ c κs. let s = c .before .before .before .before .before .before .before .before .before .before in let f = s .pre .1 .0 in
+    let l = inside (s .args .kinds .now) (s .args .i) kind.if (s .pre .1 .1) (omega arith) in let h = conditional-has t (c .before .before .before) in let w = h .0 in
+    omega (arith, s .pre .1 .2))
+    (λ c κs.
+    let read = c .before .before .before .before .j in let s = c .before .before .before .before .before .before .before .before .before .before .before in let f = s .pre .1 .0 in
+    let l = inside (s .args .kinds .now) (s .args .i) kind.if (s .pre .1 .1) (omega arith) in let h = conditional-has t (c .before .before .before .before) in let w = h .0 in
+    (within-of (s .args .kinds .now) (read .given .0 .0) (read .given .0 .1 .0) (c .process .result) (c .process .ensures .0 .0), omega arith))
+    (search needs) (search needs)
+    (λ c κs. let c10 = c .before .before .before .before .before .before .before .before .before .before in let c17 = c10 .before .before .before .before .before .before .before in
+    let s = c17 in let f = s .pre .1 .0 in let l = inside (s .args .kinds .now) (s .args .i) kind.if (s .pre .1 .1) (omega arith) in let h = conditional-has t (c10) in let w = h .0 in
+    let g = conditional-then t (c .before .before .before) in let u = g .0 in omega (arith, s .pre .1 .2))
+    (λ c. let c12 = c .before .before .before .before .before .before .before .before .before .before .before .before in
+    let c19 = c12 .before .before .before .before .before .before .before in let s = c19 in let f = s .pre .1 .0 in
+    let l = inside (s .args .kinds .now) (s .args .i) kind.if (s .pre .1 .1) (omega arith) in let h = conditional-has t (c12) in let w = h .0 in omega arith)
+    (λ c. let c12 = c .before .before .before .before .before .before .before .before .before .before .before .before in
+    let c19 = c12 .before .before .before .before .before .before .before in let s = c19 in let f = s .pre .1 .0 in
+    let l = inside (s .args .kinds .now) (s .args .i) kind.if (s .pre .1 .1) (omega arith) in let h = conditional-has t (c12) in let w = h .0 in omega arith)
+    (λ c. let c5 = c .before .before .before .before .before in let c12 = c5 .before .before .before .before .before .before .before in
+    let c19 = c12 .before .before .before .before .before .before .before in let s = c19 in let f = s .pre .1 .0 in
+    let l = inside (s .args .kinds .now) (s .args .i) kind.if (s .pre .1 .1) (omega arith) in let h = conditional-has t (c12) in let w = h .0 in let g = conditional-then t (c5) in
+    let u = g .0 in omega arith)
+    (λ c. let c5 = c .before .before .before .before .before in let c12 = c5 .before .before .before .before .before .before .before in
+    let c19 = c12 .before .before .before .before .before .before .before in let s = c19 in let f = s .pre .1 .0 in
+    let l = inside (s .args .kinds .now) (s .args .i) kind.if (s .pre .1 .1) (omega arith) in let h = conditional-has t (c12) in let w = h .0 in let g = conditional-then t (c5) in
+    let u = g .0 in omega arith)
+    (λ c κs. let c5 = c .before .before .before .before .before in let c12 = c5 .before .before .before .before .before .before .before in
+    let c19 = c12 .before .before .before .before .before .before .before in let s = c19 in let f = s .pre .1 .0 in
+    let l = inside (s .args .kinds .now) (s .args .i) kind.if (s .pre .1 .1) (omega arith) in let h = conditional-has t (c12) in let w = h .0 in let g = conditional-then t (c5) in
+    let u = g .0 in
+    ready-of (s .args .kinds .now) (c5 .k .given .0 .0) (c5 .k .given .0 .1 .0) (c .before .process2 .result) (c .before .process2 .ensures .0 .0) (omega arith) (f .small))
+    (search needs)
+    (λ c κs. let c7 = c .before .before .before .before .before .before .before in let c14 = c7 .before .before .before .before .before .before .before in
+    let c21 = c14 .before .before .before .before .before .before .before in let s = c21 in let f = s .pre .1 .0 in
+    let l = inside (s .args .kinds .now) (s .args .i) kind.if (s .pre .1 .1) (omega arith) in let h = conditional-has t (c14) in let w = h .0 in let g = conditional-then t (c7) in
+    let u = g .0 in let q = c .larger .ensures in (
+      shallow-after (s .args .kinds .now) (c7 .k .given .0 .0) (c7 .k .given .0 .1 .0) (c .before .before .before .process2 .result) _
+          (c .before .before .before .process2 .ensures .0 .0) (f .small) (c .before .add-row-of-two .ensures .0),
+      omega arith,
+      omega arith,
+      omega arith,
+      omega arith,
+    ))
+    (λ c. let expression = c .before .before .before .before .expression in let s = c .before .before .before .before .before .before .before .before in let f = s .pre .1 .0 in
+    let l = inside (s .args .kinds .now) (s .args .i) kind.if (s .pre .1 .1) (omega arith) in (
+      if-bad (s .args .kinds .now) (s .args .values .now) (s .args .i) (s .args .n) (s .args .table .now) (s .pre .1 .1) (c .before .x .given .0 .0) (expression .last .1 .1 .0)
+          (subst (λ (r : Read). Reads if-form (s .args .kinds .now) (s .args .values .now) (s .args .i + 1) (s .args .n) (s .args .table .now) r (expression .last .1 .1 .0))
+          (sym (c .before .before .before .close .ensures) ∙ c .before .x .given .1)
+          (close-if (s .args .kinds .now) (s .args .values .now) (s .args .i + 1) (s .args .n) (s .args .table .now) (expression .result) (expression .last .1 .1 .0) (expression .ensures))),
+      kept-all _ _,
+    ))
+    (λ c. let process = c .before .before .before .before .process in let read = c .before .before .before .before .before .before .before .before .j in
+    let expression = c .before .before .before .before .before .before .before .before .before .before .before .expression in
+    let s = c .before .before .before .before .before .before .before .before .before .before .before .before .before .before .before in let f = s .pre .1 .0 in
+    let l = inside (s .args .kinds .now) (s .args .i) kind.if (s .pre .1 .1) (omega arith) in
+    let h = conditional-has t (c .before .before .before .before .before .before .before .before) in let w = h .0 in (
+      then-bad (s .args .kinds .now) (s .args .values .now) (s .args .i) (s .args .n) (s .args .table .now) (s .pre .1 .1) _ _ _ _ _ h (c .before .x2 .given .0 .0)
+          (process .last .1 .1 .0)
+          (subst (λ (r : Read).
+          Reads (then-form (h .1 .tree)) (s .args .kinds .now) (s .args .values .now) (read .given .0 .0) (read .given .0 .1 .0) (expression .last .1 .1 .0) r (process .last .1 .1 .0))
+          (sym (c .before .before .before .close2 .ensures) ∙ c .before .x2 .given .1)
+          (close-then (s .args .kinds .now) (s .args .values .now) (read .given .0 .0) (read .given .0 .1 .0) (expression .last .1 .1 .0) (process .result) (process .last .1 .1 .0)
+          (h .1 .tree) (process .ensures .0))),
+      process .ensures .1,
+    ))
+    (λ c. let c4 = c .before .before .before .before in let c8 = c4 .before .before .before .before in let c11 = c8 .before .before .before in
+    let c15 = c11 .before .before .before .before in let c22 = c15 .before .before .before .before .before .before .before in let s = c22 in let f = s .pre .1 .0 in
+    let l = inside (s .args .kinds .now) (s .args .i) kind.if (s .pre .1 .1) (omega arith) in let h = conditional-has t (c15) in let w = h .0 in let g = conditional-then t (c8) in
+    let u = g .0 in (
+      rw (c .deepen .ensures, c .before .before .add-row-of-two .ensures .0, c .before .before .add-row-of-two .ensures .1, c .before .larger .ensures)
+          (process-if (s .args .kinds .now) (s .args .values .now) (s .args .i) (s .args .n) (s .args .table .now) (s .pre .1 .1) _ _ _ _ _ h _ _ _ _ _ g
+          (c4 .process2 .result) _ (c4 .process2 .ensures .0)),
+      kept-then _ _ _ (s .args .top) (s .args .top) (omega arith) (c11 .process .ensures .1) (c4 .process2 .ensures .1),
+    )))
     (λ t. list-lts.spec (list-calls t)
     (list-at t)
     list.Post
@@ -184,60 +337,229 @@ pub +braces+conditional+list+process+repetition-spec : {M : Type 1} → statemen
     list-μ-loop
     (λ c. let s = c .before .before in let f = s .pre .1 .0 in let o = s .pre .1 .1 in (omega arith, f .short, omega arith, omega arith, kept-all _ _, resumes-start _ _ _ _ _ _ _))
     (λ c. let s = c .before .before .before .before .before in let f = s .pre .1 .0 in let v = c .before .before .loop in let z = v .inv in omega arith)
-    (λ c κs. let s = c .before .before .before .before .before in let f = s .pre .1 .0 in let v = c .before .before .loop in let z = v .inv in (omega arith, (record { few = omega arith; short = omega arith; small = f .small; enough = f .enough }, omega arith)))
-    (λ c. search needs)
-    (λ c. let s = c .before .before .before .before .before .before .before .before .before in let f = s .pre .1 .0 in let v = c .before .before .before .before .before .before .loop in let z = v .inv in (resumes-bad (s .args .kinds .now) (s .args .values .now) (s .args .i) (s .args .n) (s .args .table .now) (v .at) (v .row) (v .table) (v .pending) (s .args .top) (v .count) (v .depth) (v .deepest) (z .5) (c .before .x .given .0 .0) (c .before .before .before .process .last .1 .1 .0) (subst (λ (r : Read). Reads process-form (s .args .kinds .now) (s .args .values .now) (v .at) (v .row) (v .table) r (c .before .before .before .process .last .1 .1 .0)) (c .before .x .given .1) (c .before .before .before .process .ensures .0)), (kept-then _ _ _ (s .args .top) (s .args .top + v .count) (omega arith) (z .4) (c .before .before .before .process .ensures .1))))
-    (λ c. search needs)
-    (λ c κs. search needs)
-    (λ c κs. search needs)
-    (λ c κs. search needs)
-    (λ c κs. let s = c .before .before .before .before .before .before .before .before .before .before .before .before .before .before .before in let f = s .pre .1 .0 in let v = c .before .before .before .before .before .before .before .before .before .before .before .before .loop in let z = v .inv in let h = list-has t (c .before .before .before .before .before .before .before) in let w = h .0 in omega arith)
-    (λ c. let s = c .before .before .before .before .before .before .before .before .before .before .before .before .before .before .before .before in let f = s .pre .1 .0 in let v = c .before .before .before .before .before .before .before .before .before .before .before .before .before .loop in let z = v .inv in let h = list-has t (c .before .before .before .before .before .before .before .before) in let w = h .0 in omega arith)
-    (λ c. let s = c .before .before .before .before .before .before .before .before .before .before .before .before .before .before .before .before in let f = s .pre .1 .0 in let v = c .before .before .before .before .before .before .before .before .before .before .before .before .before .loop in let z = v .inv in let h = list-has t (c .before .before .before .before .before .before .before .before) in let w = h .0 in omega arith)
-    (λ c. let s = c .before .before .before .before .before .before .before .before .before .before .before .before .before .before .before .before in let f = s .pre .1 .0 in let v = c .before .before .before .before .before .before .before .before .before .before .before .before .before .loop in let z = v .inv in let h = list-has t (c .before .before .before .before .before .before .before .before) in let w = h .0 in let k = c .before .before .before .before .kind-at .ensures in (rw (c .join .ensures, c .before .before .before .before .before .before .larger .ensures, c .before .before .before .before .before .larger2 .ensures) (resumes-last (s .args .kinds .now) (s .args .values .now) (s .args .i) (s .args .n) (s .args .table .now) (v .at) (v .row) (v .table) (v .pending) (s .args .top) (v .count) (v .depth) (v .deepest) (z .5) _ _ _ _ (c .before .before .before .before .before .before .before .before .before .before .process .last .1 .1 .0) h _ (c .before .before .before .before .before .before .before .before .before .before .process .ensures .1) (sym k ∙ c .before .before .before .if1 .taken)), (kept-then _ _ _ (s .args .top) (s .args .top + v .count) (omega arith) (z .4) (c .before .before .before .before .before .before .before .before .before .before .process .ensures .1))))
-    (λ c. let s = c .before .before .before .before .before .before .before .before .before .before .before .before .before .before in let f = s .pre .1 .0 in let v = c .before .before .before .before .before .before .before .before .before .before .before .loop in let z = v .inv in let h = list-has t (c .before .before .before .before .before .before) in let w = h .0 in let k = c .before .before .kind-at .ensures in (resumes-stop (s .args .kinds .now) (s .args .values .now) (s .args .i) (s .args .n) (s .args .table .now) (v .at) (v .row) (v .table) (v .pending) (s .args .top) (v .count) (v .depth) (v .deepest) (z .5) _ _ _ _ (c .before .before .before .before .before .before .before .before .process .last .1 .1 .0) h (λ e. c .if2 .taken (k ∙ e)) (λ e. c .before .if1 .left (k ∙ e)), (kept-then _ _ _ (s .args .top) (s .args .top + v .count) (omega arith) (z .4) (c .before .before .before .before .before .before .before .before .process .ensures .1))))
-    (λ c. let s = c .before .before .before .before .before .before .before .before .before .before .before .before .before .before .before in let f = s .pre .1 .0 in let v = c .before .before .before .before .before .before .before .before .before .before .before .before .loop in let z = v .inv in let h = list-has t (c .before .before .before .before .before .before .before) in let w = h .0 in let k = c .before .before .before .kind-at .ensures in let e = sym k ∙ c .before .if2 .left in let l = inside (s .args .kinds .now) (c .before .before .before .before .before .before .before .j .given .0 .0) 10 e (omega arith) in omega arith)
-    (λ c. let s = c .before .before .before .before .before .before .before .before .before .before .before .before .before .before .before in let f = s .pre .1 .0 in let v = c .before .before .before .before .before .before .before .before .before .before .before .before .loop in let z = v .inv in let h = list-has t (c .before .before .before .before .before .before .before) in let w = h .0 in omega arith)
-    (λ c. let s = c .before .before .before .before .before .before .before .before .before .before .before .before .before .before .before in let f = s .pre .1 .0 in let v = c .before .before .before .before .before .before .before .before .before .before .before .before .loop in let z = v .inv in let h = list-has t (c .before .before .before .before .before .before .before) in let w = h .0 in let k = c .before .before .before .kind-at .ensures in let e = sym k ∙ c .before .if2 .left in let l = inside (s .args .kinds .now) (c .before .before .before .before .before .before .before .j .given .0 .0) 10 e (omega arith) in omega arith)
-    (λ c κs. let s = c .before .before .before .before .before .before .before .before .before .before .before .before .before .before .before in let f = s .pre .1 .0 in let v = c .before .before .before .before .before .before .before .before .before .before .before .before .loop in let z = v .inv in let h = list-has t (c .before .before .before .before .before .before .before) in let w = h .0 in let k = c .before .before .before .kind-at .ensures in let e = sym k ∙ c .before .if2 .left in let l = inside (s .args .kinds .now) (c .before .before .before .before .before .before .before .j .given .0 .0) 10 e (omega arith) in omega arith)
-    (λ c. let s = c .before .before .before .before .before .before .before .before .before .before .before .before .before .before .before .before in let f = s .pre .1 .0 in let v = c .before .before .before .before .before .before .before .before .before .before .before .before .before .loop in let z = v .inv in let h = list-has t (c .before .before .before .before .before .before .before .before) in let w = h .0 in let k = c .before .before .before .before .kind-at .ensures in let e = sym k ∙ c .before .before .if2 .left in let l = inside (s .args .kinds .now) (c .before .before .before .before .before .before .before .before .j .given .0 .0) 10 e (omega arith) in omega arith)
-    (λ c. let s = c .before .before .before .before .before .before .before .before .before .before .before .before .before .before .before .before in let f = s .pre .1 .0 in let v = c .before .before .before .before .before .before .before .before .before .before .before .before .before .loop in let z = v .inv in let h = list-has t (c .before .before .before .before .before .before .before .before) in let w = h .0 in let k = c .before .before .before .before .kind-at .ensures in let e = sym k ∙ c .before .before .if2 .left in let l = inside (s .args .kinds .now) (c .before .before .before .before .before .before .before .before .j .given .0 .0) 10 e (omega arith) in omega arith)
-    (λ c. let s = c .before .before .before .before .before .before .before .before .before .before .before .before .before .before .before .before in let f = s .pre .1 .0 in let v = c .before .before .before .before .before .before .before .before .before .before .before .before .before .loop in let z = v .inv in let h = list-has t (c .before .before .before .before .before .before .before .before) in let w = h .0 in let k = c .before .before .before .before .kind-at .ensures in let e = sym k ∙ c .before .before .if2 .left in let l = inside (s .args .kinds .now) (c .before .before .before .before .before .before .before .before .j .given .0 .0) 10 e (omega arith) in omega arith)
-    (λ c. let s = c .before .before .before .before .before .before .before .before .before .before .before .before .before .before .before .before in let f = s .pre .1 .0 in let v = c .before .before .before .before .before .before .before .before .before .before .before .before .before .loop in let z = v .inv in let h = list-has t (c .before .before .before .before .before .before .before .before) in let w = h .0 in let k = c .before .before .before .before .kind-at .ensures in let e = sym k ∙ c .before .before .if2 .left in let l = inside (s .args .kinds .now) (c .before .before .before .before .before .before .before .before .j .given .0 .0) 10 e (omega arith) in (omega arith, omega arith, omega arith, omega arith, kept-then _ _ _ (s .args .top) (s .args .top + v .count) (omega arith) (kept-then _ _ _ (s .args .top) (s .args .top + v .count) (omega arith) (z .4) (c .before .before .before .before .before .before .before .before .before .before .process .ensures .1)) (c .push .ensures .1), rw (c .before .before .before .before .before .before .larger .ensures, c .before .before .before .before .before .larger2 .ensures) (resumes-more (s .args .kinds .now) (s .args .values .now) (s .args .i) (s .args .n) (s .args .table .now) (v .at) (v .row) (v .table) (v .pending) (s .args .top) (v .count) (v .depth) (v .deepest) (z .5) _ _ _ _ (c .before .before .before .before .before .before .before .before .before .before .process .last .1 .1 .0) h _ (kept-then _ _ _ (s .args .top + v .count) (s .args .top + v .count) (omega arith) (c .before .before .before .before .before .before .before .before .before .before .process .ensures .1) (c .push .ensures .1)) (c .push .ensures .0) e))))
+    (λ c κs. let s = c .before .before .before .before .before in let f = s .pre .1 .0 in let v = c .before .before .loop in let z = v .inv in
+    (omega arith, (record { few = omega arith; short = omega arith; small = f .small; enough = f .enough }, omega arith)))
+    (search needs)
+    (λ c. let process = c .before .before .before .process in let s = c .before .before .before .before .before .before .before .before .before in let f = s .pre .1 .0 in
+    let v = c .before .before .before .before .before .before .loop in let z = v .inv in (
+      resumes-bad (s .args .kinds .now) (s .args .values .now) (s .args .i) (s .args .n) (s .args .table .now) (v .at) (v .row) (v .table) (v .pending) (s .args .top) (v .count)
+          (v .depth) (v .deepest) (z .5) (c .before .x .given .0 .0) (process .last .1 .1 .0)
+          (subst (λ (r : Read). Reads process-form (s .args .kinds .now) (s .args .values .now) (v .at) (v .row) (v .table) r (process .last .1 .1 .0)) (c .before .x .given .1)
+          (process .ensures .0)),
+      (kept-then _ _ _ (s .args .top) (s .args .top + v .count) (omega arith) (z .4) (process .ensures .1)),
+    ))
+    (search needs) (search needs) (search needs) (search needs)
+    (λ c κs. let s = c .before .before .before .before .before .before .before .before .before .before .before .before .before .before .before in let f = s .pre .1 .0 in
+    let v = c .before .before .before .before .before .before .before .before .before .before .before .before .loop in let z = v .inv in
+    let h = list-has t (c .before .before .before .before .before .before .before) in let w = h .0 in omega arith)
+    (λ c. let c8 = c .before .before .before .before .before .before .before .before in let c13 = c8 .before .before .before .before .before in let c16 = c13 .before .before .before in
+    let s = c16 in let f = s .pre .1 .0 in let v = c13 .loop in let z = v .inv in let h = list-has t (c8) in let w = h .0 in omega arith)
+    (λ c. let c8 = c .before .before .before .before .before .before .before .before in let c13 = c8 .before .before .before .before .before in let c16 = c13 .before .before .before in
+    let s = c16 in let f = s .pre .1 .0 in let v = c13 .loop in let z = v .inv in let h = list-has t (c8) in let w = h .0 in omega arith)
+    (λ c. let c4 = c .before .before .before .before in let c5 = c4 .before in let c6 = c5 .before in let c8 = c6 .before .before in let c10 = c8 .before .before in
+    let c13 = c10 .before .before .before in let c16 = c13 .before .before .before in let s = c16 in let f = s .pre .1 .0 in let v = c13 .loop in let z = v .inv in
+    let h = list-has t (c8) in let w = h .0 in let k = c4 .kind-at .ensures in (
+      rw (c .join .ensures, c6 .larger .ensures, c5 .larger2 .ensures)
+          (resumes-last (s .args .kinds .now) (s .args .values .now) (s .args .i) (s .args .n) (s .args .table .now) (v .at) (v .row) (v .table) (v .pending) (s .args .top) (v .count)
+          (v .depth) (v .deepest) (z .5) _ _ _ _ (c10 .process .last .1 .1 .0) h _ (c10 .process .ensures .1) (sym k ∙ c .before .before .before .if1 .taken)),
+      (kept-then _ _ _ (s .args .top) (s .args .top + v .count) (omega arith) (z .4) (c10 .process .ensures .1)),
+    ))
+    (λ c. let process = c .before .before .before .before .before .before .before .before .process in
+    let s = c .before .before .before .before .before .before .before .before .before .before .before .before .before .before in let f = s .pre .1 .0 in
+    let v = c .before .before .before .before .before .before .before .before .before .before .before .loop in let z = v .inv in
+    let h = list-has t (c .before .before .before .before .before .before) in let w = h .0 in let k = c .before .before .kind-at .ensures in (
+      resumes-stop (s .args .kinds .now) (s .args .values .now) (s .args .i) (s .args .n) (s .args .table .now) (v .at) (v .row) (v .table) (v .pending) (s .args .top) (v .count)
+          (v .depth) (v .deepest) (z .5) _ _ _ _ (process .last .1 .1 .0) h (λ e. c .if2 .taken (k ∙ e)) (λ e. c .before .if1 .left (k ∙ e)),
+      (kept-then _ _ _ (s .args .top) (s .args .top + v .count) (omega arith) (z .4) (process .ensures .1)),
+    ))
+    (λ c. let read = c .before .before .before .before .before .before .before .j in
+    let s = c .before .before .before .before .before .before .before .before .before .before .before .before .before .before .before in let f = s .pre .1 .0 in
+    let v = c .before .before .before .before .before .before .before .before .before .before .before .before .loop in let z = v .inv in
+    let h = list-has t (c .before .before .before .before .before .before .before) in let w = h .0 in let k = c .before .before .before .kind-at .ensures in
+    let e = sym k ∙ c .before .if2 .left in let l = inside (s .args .kinds .now) (read .given .0 .0) kind.semicolon e (omega arith) in omega arith)
+    (λ c. let s = c .before .before .before .before .before .before .before .before .before .before .before .before .before .before .before in let f = s .pre .1 .0 in
+    let v = c .before .before .before .before .before .before .before .before .before .before .before .before .loop in let z = v .inv in
+    let h = list-has t (c .before .before .before .before .before .before .before) in let w = h .0 in omega arith)
+    (λ c. let read = c .before .before .before .before .before .before .before .j in
+    let s = c .before .before .before .before .before .before .before .before .before .before .before .before .before .before .before in let f = s .pre .1 .0 in
+    let v = c .before .before .before .before .before .before .before .before .before .before .before .before .loop in let z = v .inv in
+    let h = list-has t (c .before .before .before .before .before .before .before) in let w = h .0 in let k = c .before .before .before .kind-at .ensures in
+    let e = sym k ∙ c .before .if2 .left in let l = inside (s .args .kinds .now) (read .given .0 .0) kind.semicolon e (omega arith) in omega arith)
+    (λ c κs. let read = c .before .before .before .before .before .before .before .j in
+    let s = c .before .before .before .before .before .before .before .before .before .before .before .before .before .before .before in let f = s .pre .1 .0 in
+    let v = c .before .before .before .before .before .before .before .before .before .before .before .before .loop in let z = v .inv in
+    let h = list-has t (c .before .before .before .before .before .before .before) in let w = h .0 in let k = c .before .before .before .kind-at .ensures in
+    let e = sym k ∙ c .before .if2 .left in let l = inside (s .args .kinds .now) (read .given .0 .0) kind.semicolon e (omega arith) in omega arith)
+    (λ c. let c4 = c .before .before .before .before in let c8 = c4 .before .before .before .before in let c13 = c8 .before .before .before .before .before in
+    let c16 = c13 .before .before .before in let s = c16 in let f = s .pre .1 .0 in let v = c13 .loop in let z = v .inv in let h = list-has t (c8) in let w = h .0 in
+    let k = c4 .kind-at .ensures in let e = sym k ∙ c .before .before .if2 .left in let l = inside (s .args .kinds .now) (c8 .j .given .0 .0) kind.semicolon e (omega arith) in
+    omega arith)
+    (λ c. let c4 = c .before .before .before .before in let c8 = c4 .before .before .before .before in let c13 = c8 .before .before .before .before .before in
+    let c16 = c13 .before .before .before in let s = c16 in let f = s .pre .1 .0 in let v = c13 .loop in let z = v .inv in let h = list-has t (c8) in let w = h .0 in
+    let k = c4 .kind-at .ensures in let e = sym k ∙ c .before .before .if2 .left in let l = inside (s .args .kinds .now) (c8 .j .given .0 .0) kind.semicolon e (omega arith) in
+    omega arith)
+    (λ c. let c4 = c .before .before .before .before in let c8 = c4 .before .before .before .before in let c13 = c8 .before .before .before .before .before in
+    let c16 = c13 .before .before .before in let s = c16 in let f = s .pre .1 .0 in let v = c13 .loop in let z = v .inv in let h = list-has t (c8) in let w = h .0 in
+    let k = c4 .kind-at .ensures in let e = sym k ∙ c .before .before .if2 .left in let l = inside (s .args .kinds .now) (c8 .j .given .0 .0) kind.semicolon e (omega arith) in
+    omega arith)
+    (λ c. let c4 = c .before .before .before .before in let c5 = c4 .before in let c6 = c5 .before in let c8 = c6 .before .before in let c10 = c8 .before .before in
+    let c13 = c10 .before .before .before in let c16 = c13 .before .before .before in let s = c16 in let f = s .pre .1 .0 in let v = c13 .loop in let z = v .inv in
+    let h = list-has t (c8) in let w = h .0 in let k = c4 .kind-at .ensures in let e = sym k ∙ c .before .before .if2 .left in
+    let l = inside (s .args .kinds .now) (c8 .j .given .0 .0) kind.semicolon e (omega arith) in (
+      omega arith,
+      omega arith,
+      omega arith,
+      omega arith,
+      kept-then _ _ _ (s .args .top) (s .args .top + v .count) (omega arith) (kept-then _ _ _ (s .args .top) (s .args .top + v .count) (omega arith) (z .4) (c10 .process .ensures .1))
+          (c .push .ensures .1),
+      rw (c6 .larger .ensures, c5 .larger2 .ensures)
+          (resumes-more (s .args .kinds .now) (s .args .values .now) (s .args .i) (s .args .n) (s .args .table .now) (v .at) (v .row) (v .table) (v .pending) (s .args .top) (v .count)
+          (v .depth) (v .deepest) (z .5) _ _ _ _ (c10 .process .last .1 .1 .0) h _
+          (kept-then _ _ _ (s .args .top + v .count) (s .args .top + v .count) (omega arith) (c10 .process .ensures .1) (c .push .ensures .1)) (c .push .ensures .0) e),
+    )))
     (λ t. process-lts.spec (process-calls t)
     (process-at t)
     process.Post
     (λ c κs. c .before .before .pre .1 .0 .short)
-    (λ c κs. search needs)
-    (λ c κs. let s = c .before .before .before .before .before .before in let f = s .pre .1 .0 in let j = c .before .before .before .past-comments .result in let g = c .before .before .before .past-comments .ensures .0 in let k = c .before .before .kind-at .ensures in let e = sym k ∙ c .before .if1 .taken in let l = inside (s .args .kinds .now) j 16 e (omega arith) in omega arith)
-    (λ c. let s = c .before .before .before .before .before .before .before in let f = s .pre .1 .0 in let j = c .before .before .before .before .past-comments .result in let g = c .before .before .before .before .past-comments .ensures .0 in let k = c .before .before .before .kind-at .ensures in let e = sym k ∙ c .before .before .if1 .taken in let l = inside (s .args .kinds .now) j 16 e (omega arith) in omega arith)
-    (λ c. let s = c .before .before .before .before .before .before .before in let f = s .pre .1 .0 in let j = c .before .before .before .before .past-comments .result in let g = c .before .before .before .before .past-comments .ensures .0 in let k = c .before .before .before .kind-at .ensures in let e = sym k ∙ c .before .before .if1 .taken in let l = inside (s .args .kinds .now) j 16 e (omega arith) in omega arith)
-    (λ c. let s = c .before .before .before .before .before .before .before in let f = s .pre .1 .0 in let j = c .before .before .before .before .past-comments .result in let g = c .before .before .before .before .past-comments .ensures .0 in let k = c .before .before .before .kind-at .ensures in let e = sym k ∙ c .before .before .if1 .taken in let l = inside (s .args .kinds .now) j 16 e (omega arith) in (process-comments (s .args .kinds .now) (s .args .values .now) (s .args .i) j (s .args .n) (s .args .table .now) (Done (j + 1) (s .args .n + 1) 1 0) (c .put .last .0) g (process-skip (s .args .kinds .now) (s .args .values .now) j (s .args .n) (s .args .table .now) (c .put .last .0) e (c .put .ensures)), kept-all _ _))
-    (λ c κs. let s = c .before .before .before .before .before .before .before in let f = s .pre .1 .0 in let j = c .before .before .before .before .past-comments .result in let g = c .before .before .before .before .past-comments .ensures .0 in let k = c .before .before .before .kind-at .ensures in let e = sym k ∙ c .before .if2 .taken in let l = inside (s .args .kinds .now) j 17 e (omega arith) in omega arith)
-    (λ c. let s = c .before .before .before .before .before .before .before .before in let f = s .pre .1 .0 in let j = c .before .before .before .before .before .past-comments .result in let g = c .before .before .before .before .before .past-comments .ensures .0 in let k = c .before .before .before .before .kind-at .ensures in let e = sym k ∙ c .before .before .if2 .taken in let l = inside (s .args .kinds .now) j 17 e (omega arith) in omega arith)
-    (λ c. let s = c .before .before .before .before .before .before .before .before in let f = s .pre .1 .0 in let j = c .before .before .before .before .before .past-comments .result in let g = c .before .before .before .before .before .past-comments .ensures .0 in let k = c .before .before .before .before .kind-at .ensures in let e = sym k ∙ c .before .before .if2 .taken in let l = inside (s .args .kinds .now) j 17 e (omega arith) in omega arith)
-    (λ c. let s = c .before .before .before .before .before .before .before .before in let f = s .pre .1 .0 in let j = c .before .before .before .before .before .past-comments .result in let g = c .before .before .before .before .before .past-comments .ensures .0 in let k = c .before .before .before .before .kind-at .ensures in let e = sym k ∙ c .before .before .if2 .taken in let l = inside (s .args .kinds .now) j 17 e (omega arith) in (process-comments (s .args .kinds .now) (s .args .values .now) (s .args .i) j (s .args .n) (s .args .table .now) (Done (j + 1) (s .args .n + 1) 1 0) (c .put2 .last .0) g (process-stop (s .args .kinds .now) (s .args .values .now) j (s .args .n) (s .args .table .now) (c .put2 .last .0) e (c .put2 .ensures)), kept-all _ _))
-    (λ c κs. let s = c .before .before .before .before .before .before .before .before in let f = s .pre .1 .0 in let j = c .before .before .before .before .before .past-comments .result in let g = c .before .before .before .before .before .past-comments .ensures .0 in let k = c .before .before .before .before .kind-at .ensures in let e = sym k ∙ c .before .if3 .taken in let l = inside (s .args .kinds .now) j 2 e (omega arith) in (record { few = omega arith; short = g .short; small = f .small; enough = f .enough }, e))
-    (λ c. let s = c .before .before .before .before .before .before .before .before .before in let f = s .pre .1 .0 in let j = c .before .before .before .before .before .before .past-comments .result in let g = c .before .before .before .before .before .before .past-comments .ensures .0 in let k = c .before .before .before .before .before .kind-at .ensures in (process-comments (s .args .kinds .now) (s .args .values .now) (s .args .i) j (s .args .n) (s .args .table .now) (c .assignment .result) (c .assignment .last .1 .1 .0) g (c .assignment .ensures), kept-all _ _))
-    (λ c κs. let s = c .before .before .before .before .before .before .before .before .before .before in let f = s .pre .1 .0 in let j = c .before .before .before .before .before .before .before .past-comments .result in let g = c .before .before .before .before .before .before .before .past-comments .ensures .0 in let k = c .before .before .before .before .before .before .kind-at .ensures in let e = sym k ∙ c .before .before .if4 .taken in let l = inside (s .args .kinds .now) j 8 e (omega arith) in let o = s .pre .1 .1 in (omega arith, (record { few = omega arith; short = g .short; small = f .small; enough = f .enough }, e, omega arith)))
-    (λ c. let s = c .before .before .before .before .before .before .before .before .before .before .before in let f = s .pre .1 .0 in let j = c .before .before .before .before .before .before .before .before .past-comments .result in let g = c .before .before .before .before .before .before .before .before .past-comments .ensures .0 in let k = c .before .before .before .before .before .before .before .kind-at .ensures in (process-comments (s .args .kinds .now) (s .args .values .now) (s .args .i) j (s .args .n) (s .args .table .now) (c .braces .result) (c .braces .last .1 .1 .0) g (c .braces .ensures .0), c .braces .ensures .1))
-    (λ c κs. let s = c .before .before .before .before .before .before .before .before .before .before .before in let f = s .pre .1 .0 in let j = c .before .before .before .before .before .before .before .before .past-comments .result in let g = c .before .before .before .before .before .before .before .before .past-comments .ensures .0 in let k = c .before .before .before .before .before .before .before .kind-at .ensures in let e = sym k ∙ c .before .before .if5 .taken in let l = inside (s .args .kinds .now) j 18 e (omega arith) in let o = s .pre .1 .1 in (omega arith, (record { few = omega arith; short = g .short; small = f .small; enough = f .enough }, e, omega arith)))
-    (λ c. let s = c .before .before .before .before .before .before .before .before .before .before .before .before in let f = s .pre .1 .0 in let j = c .before .before .before .before .before .before .before .before .before .past-comments .result in let g = c .before .before .before .before .before .before .before .before .before .past-comments .ensures .0 in let k = c .before .before .before .before .before .before .before .before .kind-at .ensures in (process-comments (s .args .kinds .now) (s .args .values .now) (s .args .i) j (s .args .n) (s .args .table .now) (c .conditional .result) (c .conditional .last .1 .1 .0) g (c .conditional .ensures .0), c .conditional .ensures .1))
-    (λ c κs. let s = c .before .before .before .before .before .before .before .before .before .before .before .before in let f = s .pre .1 .0 in let j = c .before .before .before .before .before .before .before .before .before .past-comments .result in let g = c .before .before .before .before .before .before .before .before .before .past-comments .ensures .0 in let k = c .before .before .before .before .before .before .before .before .kind-at .ensures in let e = sym k ∙ c .before .before .if6 .taken in let l = inside (s .args .kinds .now) j 21 e (omega arith) in let o = s .pre .1 .1 in (omega arith, (record { few = omega arith; short = g .short; small = f .small; enough = f .enough }, e, omega arith)))
-    (λ c. let s = c .before .before .before .before .before .before .before .before .before .before .before .before .before in let f = s .pre .1 .0 in let j = c .before .before .before .before .before .before .before .before .before .before .past-comments .result in let g = c .before .before .before .before .before .before .before .before .before .before .past-comments .ensures .0 in let k = c .before .before .before .before .before .before .before .before .before .kind-at .ensures in (process-comments (s .args .kinds .now) (s .args .values .now) (s .args .i) j (s .args .n) (s .args .table .now) (c .repetition .result) (c .repetition .last .1 .1 .0) g (c .repetition .ensures .0), c .repetition .ensures .1))
-    (λ c. let s = c .before .before .before .before .before .before .before .before .before .before in let f = s .pre .1 .0 in let j = c .before .before .before .before .before .before .before .past-comments .result in let g = c .before .before .before .before .before .before .before .past-comments .ensures .0 in let k = c .before .before .before .before .before .before .kind-at .ensures in (process-comments (s .args .kinds .now) (s .args .values .now) (s .args .i) j (s .args .n) (s .args .table .now) (Bad j) (s .args .table .now) g (process-none (s .args .kinds .now) (s .args .values .now) j (s .args .n) (s .args .table .now) (g .short) (s .args .table .now) (λ e. c .before .before .before .before .before .if1 .left (k ∙ e)) (λ e. c .before .before .before .before .if2 .left (k ∙ e)) (λ e. c .before .before .before .if3 .left (k ∙ e)) (λ e. c .before .before .if4 .left (k ∙ e)) (λ e. c .before .if5 .left (k ∙ e)) (λ e. c .if6 .left (k ∙ e)) (c .before .before .before .before .before .before .before .past-comments .ensures .1)), kept-all _ _)))
+    (search needs)
+    (λ c κs. let past-comments = c .before .before .before .past-comments in let s = c .before .before .before .before .before .before in let f = s .pre .1 .0 in
+    let j = past-comments .result in let g = past-comments .ensures .0 in let k = c .before .before .kind-at .ensures in let e = sym k ∙ c .before .if1 .taken in
+    let l = inside (s .args .kinds .now) j kind.skip e (omega arith) in omega arith)
+    (λ c. let past-comments = c .before .before .before .before .past-comments in let s = c .before .before .before .before .before .before .before in let f = s .pre .1 .0 in
+    let j = past-comments .result in let g = past-comments .ensures .0 in let k = c .before .before .before .kind-at .ensures in let e = sym k ∙ c .before .before .if1 .taken in
+    let l = inside (s .args .kinds .now) j kind.skip e (omega arith) in omega arith)
+    (λ c. let past-comments = c .before .before .before .before .past-comments in let s = c .before .before .before .before .before .before .before in let f = s .pre .1 .0 in
+    let j = past-comments .result in let g = past-comments .ensures .0 in let k = c .before .before .before .kind-at .ensures in let e = sym k ∙ c .before .before .if1 .taken in
+    let l = inside (s .args .kinds .now) j kind.skip e (omega arith) in omega arith)
+    (λ c. let past-comments = c .before .before .before .before .past-comments in let s = c .before .before .before .before .before .before .before in let f = s .pre .1 .0 in
+    let j = past-comments .result in let g = past-comments .ensures .0 in let k = c .before .before .before .kind-at .ensures in let e = sym k ∙ c .before .before .if1 .taken in
+    let l = inside (s .args .kinds .now) j kind.skip e (omega arith) in (
+      process-comments (s .args .kinds .now) (s .args .values .now) (s .args .i) j (s .args .n) (s .args .table .now) (Done (j + 1) (s .args .n + 1) 1 0) (c .put .last .0) g
+          (process-skip (s .args .kinds .now) (s .args .values .now) j (s .args .n) (s .args .table .now) (c .put .last .0) e (c .put .ensures)),
+      kept-all _ _,
+    ))
+    (λ c κs. let past-comments = c .before .before .before .before .past-comments in let s = c .before .before .before .before .before .before .before in let f = s .pre .1 .0 in
+    let j = past-comments .result in let g = past-comments .ensures .0 in let k = c .before .before .before .kind-at .ensures in let e = sym k ∙ c .before .if2 .taken in
+    let l = inside (s .args .kinds .now) j kind.stop e (omega arith) in omega arith)
+    (λ c. let kind-at = c .before .before .before .before .kind-at in let past-comments = c .before .before .before .before .before .past-comments in
+    let s = c .before .before .before .before .before .before .before .before in let f = s .pre .1 .0 in let j = past-comments .result in let g = past-comments .ensures .0 in
+    let k = kind-at .ensures in let e = sym k ∙ c .before .before .if2 .taken in let l = inside (s .args .kinds .now) j kind.stop e (omega arith) in omega arith)
+    (λ c. let kind-at = c .before .before .before .before .kind-at in let past-comments = c .before .before .before .before .before .past-comments in
+    let s = c .before .before .before .before .before .before .before .before in let f = s .pre .1 .0 in let j = past-comments .result in let g = past-comments .ensures .0 in
+    let k = kind-at .ensures in let e = sym k ∙ c .before .before .if2 .taken in let l = inside (s .args .kinds .now) j kind.stop e (omega arith) in omega arith)
+    (λ c. let kind-at = c .before .before .before .before .kind-at in let past-comments = c .before .before .before .before .before .past-comments in
+    let s = c .before .before .before .before .before .before .before .before in let f = s .pre .1 .0 in let j = past-comments .result in let g = past-comments .ensures .0 in
+    let k = kind-at .ensures in let e = sym k ∙ c .before .before .if2 .taken in let l = inside (s .args .kinds .now) j kind.stop e (omega arith) in (
+      process-comments (s .args .kinds .now) (s .args .values .now) (s .args .i) j (s .args .n) (s .args .table .now) (Done (j + 1) (s .args .n + 1) 1 0) (c .put2 .last .0) g
+          (process-stop (s .args .kinds .now) (s .args .values .now) j (s .args .n) (s .args .table .now) (c .put2 .last .0) e (c .put2 .ensures)),
+      kept-all _ _,
+    ))
+    (λ c κs. let kind-at = c .before .before .before .before .kind-at in let past-comments = c .before .before .before .before .before .past-comments in
+    let s = c .before .before .before .before .before .before .before .before in let f = s .pre .1 .0 in let j = past-comments .result in let g = past-comments .ensures .0 in
+    let k = kind-at .ensures in let e = sym k ∙ c .before .if3 .taken in let l = inside (s .args .kinds .now) j kind.name e (omega arith) in
+    (record { few = omega arith; short = g .short; small = f .small; enough = f .enough }, e))
+    (λ c. let kind-at = c .before .before .before .before .before .kind-at in let past-comments = c .before .before .before .before .before .before .past-comments in
+    let s = c .before .before .before .before .before .before .before .before .before in let f = s .pre .1 .0 in let j = past-comments .result in let g = past-comments .ensures .0 in
+    let k = kind-at .ensures in (
+      process-comments (s .args .kinds .now) (s .args .values .now) (s .args .i) j (s .args .n) (s .args .table .now) (c .assignment .result)
+          (c .assignment .last .1 .1 .0) g (c .assignment .ensures),
+      kept-all _ _,
+    ))
+    (λ c κs. let kind-at = c .before .before .before .before .before .before .kind-at in let past-comments = c .before .before .before .before .before .before .before .past-comments in
+    let s = c .before .before .before .before .before .before .before .before .before .before in let f = s .pre .1 .0 in let j = past-comments .result in
+    let g = past-comments .ensures .0 in let k = kind-at .ensures in let e = sym k ∙ c .before .before .if4 .taken in
+    let l = inside (s .args .kinds .now) j kind.open-brace e (omega arith) in let o = s .pre .1 .1 in
+    (omega arith, (record { few = omega arith; short = g .short; small = f .small; enough = f .enough }, e, omega arith)))
+    (λ c. let kind-at = c .before .before .before .before .before .before .before .kind-at in
+    let past-comments = c .before .before .before .before .before .before .before .before .past-comments in
+    let s = c .before .before .before .before .before .before .before .before .before .before .before in let f = s .pre .1 .0 in let j = past-comments .result in
+    let g = past-comments .ensures .0 in let k = kind-at .ensures in (
+      process-comments (s .args .kinds .now) (s .args .values .now) (s .args .i) j (s .args .n) (s .args .table .now) (c .braces .result) (c .braces .last .1 .1 .0) g
+          (c .braces .ensures .0),
+      c .braces .ensures .1,
+    ))
+    (λ c κs. let kind-at = c .before .before .before .before .before .before .before .kind-at in
+    let past-comments = c .before .before .before .before .before .before .before .before .past-comments in
+    let s = c .before .before .before .before .before .before .before .before .before .before .before in let f = s .pre .1 .0 in let j = past-comments .result in
+    let g = past-comments .ensures .0 in let k = kind-at .ensures in let e = sym k ∙ c .before .before .if5 .taken in let l = inside (s .args .kinds .now) j kind.if e (omega arith) in
+    let o = s .pre .1 .1 in (omega arith, (record { few = omega arith; short = g .short; small = f .small; enough = f .enough }, e, omega arith)))
+    (λ c. let kind-at = c .before .before .before .before .before .before .before .before .kind-at in
+    let past-comments = c .before .before .before .before .before .before .before .before .before .past-comments in
+    let s = c .before .before .before .before .before .before .before .before .before .before .before .before in let f = s .pre .1 .0 in let j = past-comments .result in
+    let g = past-comments .ensures .0 in let k = kind-at .ensures in (
+      process-comments (s .args .kinds .now) (s .args .values .now) (s .args .i) j (s .args .n) (s .args .table .now) (c .conditional .result) (c .conditional .last .1 .1 .0) g
+          (c .conditional .ensures .0),
+      c .conditional .ensures .1,
+    ))
+    (λ c κs. let kind-at = c .before .before .before .before .before .before .before .before .kind-at in
+    let past-comments = c .before .before .before .before .before .before .before .before .before .past-comments in
+    let s = c .before .before .before .before .before .before .before .before .before .before .before .before in let f = s .pre .1 .0 in let j = past-comments .result in
+    let g = past-comments .ensures .0 in let k = kind-at .ensures in let e = sym k ∙ c .before .before .if6 .taken in
+    let l = inside (s .args .kinds .now) j kind.while e (omega arith) in let o = s .pre .1 .1 in
+    (omega arith, (record { few = omega arith; short = g .short; small = f .small; enough = f .enough }, e, omega arith)))
+    (λ c. let kind-at = c .before .before .before .before .before .before .before .before .before .kind-at in
+    let past-comments = c .before .before .before .before .before .before .before .before .before .before .past-comments in
+    let s = c .before .before .before .before .before .before .before .before .before .before .before .before .before in let f = s .pre .1 .0 in let j = past-comments .result in
+    let g = past-comments .ensures .0 in let k = kind-at .ensures in (
+      process-comments (s .args .kinds .now) (s .args .values .now) (s .args .i) j (s .args .n) (s .args .table .now) (c .repetition .result) (c .repetition .last .1 .1 .0) g
+          (c .repetition .ensures .0),
+      c .repetition .ensures .1,
+    ))
+    (λ c. let if2 = c .before .before .before .before .if2 in let if1 = c .before .before .before .before .before .if1 in
+    let kind-at = c .before .before .before .before .before .before .kind-at in let past-comments = c .before .before .before .before .before .before .before .past-comments in
+    let s = c .before .before .before .before .before .before .before .before .before .before in let f = s .pre .1 .0 in let j = past-comments .result in
+    let g = past-comments .ensures .0 in let k = kind-at .ensures in (
+      process-comments (s .args .kinds .now) (s .args .values .now) (s .args .i) j (s .args .n) (s .args .table .now) (Bad j) (s .args .table .now) g
+          (process-none (s .args .kinds .now) (s .args .values .now) j (s .args .n) (s .args .table .now) (g .short) (s .args .table .now) (λ e. if1 .left (k ∙ e)) (λ e. if2 .left (k ∙ e))
+          (λ e. c .before .before .before .if3 .left (k ∙ e)) (λ e. c .before .before .if4 .left (k ∙ e)) (λ e. c .before .if5 .left (k ∙ e)) (λ e. c .if6 .left (k ∙ e))
+          (past-comments .ensures .1)),
+      kept-all _ _,
+    )))
     λ t. repetition-lts.spec (repetition-calls t)
     (repetition-at t)
     repetition.Post
-    (λ c. let s = c .before .before .before in let f = s .pre .1 .0 in let l = inside (s .args .kinds .now) (s .args .i) 21 (s .pre .1 .1) (omega arith) in omega arith)
-    (λ c κs. let s = c .before .before .before in let f = s .pre .1 .0 in let l = inside (s .args .kinds .now) (s .args .i) 21 (s .pre .1 .1) (omega arith) in omega arith)
-    (λ c κs. let s = c .before .before .before .before in let f = s .pre .1 .0 in let l = inside (s .args .kinds .now) (s .args .i) 21 (s .pre .1 .1) (omega arith) in (within-of (s .args .kinds .now) (s .args .i + 1) (s .args .n) (c .expression .result) (c .expression .ensures .0), omega arith))
-    (λ c. search needs)
-    (λ c. search needs)
-    (λ c κs. let s = c .before .before .before .before .before .before .before .before .before .before in let f = s .pre .1 .0 in let l = inside (s .args .kinds .now) (s .args .i) 21 (s .pre .1 .1) (omega arith) in let h = repetition-has t (c .before .before .before) in let w = h .0 in omega (arith, s .pre .1 .2))
-    (λ c. let s = c .before .before .before .before .before .before .before .before .before .before .before .before in let f = s .pre .1 .0 in let l = inside (s .args .kinds .now) (s .args .i) 21 (s .pre .1 .1) (omega arith) in let h = repetition-has t (c .before .before .before .before .before) in let w = h .0 in omega arith)
-    (λ c. let s = c .before .before .before .before .before .before .before .before .before .before .before .before in let f = s .pre .1 .0 in let l = inside (s .args .kinds .now) (s .args .i) 21 (s .pre .1 .1) (omega arith) in let h = repetition-has t (c .before .before .before .before .before) in let w = h .0 in omega arith)
-    (λ c κs. let s = c .before .before .before .before .before .before .before .before .before .before .before .before in let f = s .pre .1 .0 in let l = inside (s .args .kinds .now) (s .args .i) 21 (s .pre .1 .1) (omega arith) in let h = repetition-has t (c .before .before .before .before .before) in let w = h .0 in ready-of (s .args .kinds .now) (c .before .before .before .before .before .j .given .0 .0) (c .before .before .before .before .before .j .given .0 .1 .0) (c .before .process .result) (c .before .process .ensures .0 .0) (omega arith) (f .small))
-    (λ c κs. let s = c .before .before .before .before .before .before .before .before .before .before .before .before .before in let f = s .pre .1 .0 in let l = inside (s .args .kinds .now) (s .args .i) 21 (s .pre .1 .1) (omega arith) in let h = repetition-has t (c .before .before .before .before .before .before) in let w = h .0 in (shallow-after (s .args .kinds .now) (c .before .before .before .before .before .before .j .given .0 .0) (c .before .before .before .before .before .before .j .given .0 .1 .0) (c .before .before .process .result) _ (c .before .before .process .ensures .0 .0) (f .small) (c .add-row .ensures .0), omega arith, omega arith, omega arith, omega arith))
-    (λ c. let s = c .before .before .before .before .before .before .before .before in let f = s .pre .1 .0 in let l = inside (s .args .kinds .now) (s .args .i) 21 (s .pre .1 .1) (omega arith) in (while-bad (s .args .kinds .now) (s .args .values .now) (s .args .i) (s .args .n) (s .args .table .now) (s .pre .1 .1) (c .before .x .given .0 .0) (c .before .before .before .before .expression .last .1 .1 .0) (subst (λ (r : Read). Reads while-form (s .args .kinds .now) (s .args .values .now) (s .args .i + 1) (s .args .n) (s .args .table .now) r (c .before .before .before .before .expression .last .1 .1 .0)) (sym (c .before .before .before .close .ensures) ∙ c .before .x .given .1) (close-while (s .args .kinds .now) (s .args .values .now) (s .args .i + 1) (s .args .n) (s .args .table .now) (c .before .before .before .before .expression .result) (c .before .before .before .before .expression .last .1 .1 .0) (c .before .before .before .before .expression .ensures))), kept-all _ _))
-    (λ c. let s = c .before .before .before .before .before .before .before .before .before .before .before .before .before .before in let f = s .pre .1 .0 in let l = inside (s .args .kinds .now) (s .args .i) 21 (s .pre .1 .1) (omega arith) in let h = repetition-has t (c .before .before .before .before .before .before .before) in let w = h .0 in (rw (c .deepen .ensures, c .before .add-row .ensures .0, c .before .add-row .ensures .1) (process-while (s .args .kinds .now) (s .args .values .now) (s .args .i) (s .args .n) (s .args .table .now) (s .pre .1 .1) _ _ _ _ _ h (c .before .before .before .process .result) _ (c .before .before .before .process .ensures .0)), c .before .before .before .process .ensures .1))
+    (λ c. let s = c .before .before .before in let f = s .pre .1 .0 in let l = inside (s .args .kinds .now) (s .args .i) kind.while (s .pre .1 .1) (omega arith) in omega arith)
+    (λ c κs. let s = c .before .before .before in let f = s .pre .1 .0 in let l = inside (s .args .kinds .now) (s .args .i) kind.while (s .pre .1 .1) (omega arith) in omega arith)
+    (λ c κs. let s = c .before .before .before .before in let f = s .pre .1 .0 in let l = inside (s .args .kinds .now) (s .args .i) kind.while (s .pre .1 .1) (omega arith) in
+    (within-of (s .args .kinds .now) (s .args .i + 1) (s .args .n) (c .expression .result) (c .expression .ensures .0), omega arith))
+    (search needs) (search needs)
+    (λ c κs. let s = c .before .before .before .before .before .before .before .before .before .before in let f = s .pre .1 .0 in
+    let l = inside (s .args .kinds .now) (s .args .i) kind.while (s .pre .1 .1) (omega arith) in let h = repetition-has t (c .before .before .before) in let w = h .0 in
+    omega (arith, s .pre .1 .2))
+    (λ c. let s = c .before .before .before .before .before .before .before .before .before .before .before .before in let f = s .pre .1 .0 in
+    let l = inside (s .args .kinds .now) (s .args .i) kind.while (s .pre .1 .1) (omega arith) in let h = repetition-has t (c .before .before .before .before .before) in let w = h .0 in
+    omega arith)
+    (λ c. let s = c .before .before .before .before .before .before .before .before .before .before .before .before in let f = s .pre .1 .0 in
+    let l = inside (s .args .kinds .now) (s .args .i) kind.while (s .pre .1 .1) (omega arith) in let h = repetition-has t (c .before .before .before .before .before) in let w = h .0 in
+    omega arith)
+    (λ c κs. let read = c .before .before .before .before .before .j in let s = c .before .before .before .before .before .before .before .before .before .before .before .before in
+    let f = s .pre .1 .0 in let l = inside (s .args .kinds .now) (s .args .i) kind.while (s .pre .1 .1) (omega arith) in
+    let h = repetition-has t (c .before .before .before .before .before) in let w = h .0 in
+    ready-of (s .args .kinds .now) (read .given .0 .0) (read .given .0 .1 .0) (c .before .process .result) (c .before .process .ensures .0 .0) (omega arith) (f .small))
+    (λ c κs. let read = c .before .before .before .before .before .before .j in
+    let s = c .before .before .before .before .before .before .before .before .before .before .before .before .before in let f = s .pre .1 .0 in
+    let l = inside (s .args .kinds .now) (s .args .i) kind.while (s .pre .1 .1) (omega arith) in let h = repetition-has t (c .before .before .before .before .before .before) in
+    let w = h .0 in (
+      shallow-after (s .args .kinds .now) (read .given .0 .0) (read .given .0 .1 .0) (c .before .before .process .result) _ (c .before .before .process .ensures .0 .0)
+          (f .small) (c .add-row .ensures .0),
+      omega arith,
+      omega arith,
+      omega arith,
+      omega arith,
+    ))
+    (λ c. let expression = c .before .before .before .before .expression in let s = c .before .before .before .before .before .before .before .before in let f = s .pre .1 .0 in
+    let l = inside (s .args .kinds .now) (s .args .i) kind.while (s .pre .1 .1) (omega arith) in (
+      while-bad (s .args .kinds .now) (s .args .values .now) (s .args .i) (s .args .n) (s .args .table .now) (s .pre .1 .1) (c .before .x .given .0 .0) (expression .last .1 .1 .0)
+          (subst (λ (r : Read). Reads while-form (s .args .kinds .now) (s .args .values .now) (s .args .i + 1) (s .args .n) (s .args .table .now) r (expression .last .1 .1 .0))
+          (sym (c .before .before .before .close .ensures) ∙ c .before .x .given .1)
+          (close-while (s .args .kinds .now) (s .args .values .now) (s .args .i + 1) (s .args .n) (s .args .table .now) (expression .result) (expression .last .1 .1 .0) (expression .ensures))),
+      kept-all _ _,
+    ))
+    (λ c.
+    let process = c .before .before .before .process in let s = c .before .before .before .before .before .before .before .before .before .before .before .before .before .before in
+    let f = s .pre .1 .0 in let l = inside (s .args .kinds .now) (s .args .i) kind.while (s .pre .1 .1) (omega arith) in
+    let h = repetition-has t (c .before .before .before .before .before .before .before) in let w = h .0 in (
+      rw (c .deepen .ensures, c .before .add-row .ensures .0, c .before .add-row .ensures .1)
+          (process-while (s .args .kinds .now) (s .args .values .now) (s .args .i) (s .args .n) (s .args .table .now) (s .pre .1 .1) _ _ _ _ _ h (process .result) _ (process .ensures .0)),
+      process .ensures .1,
+    ))

@@ -4,6 +4,7 @@ use borrow.Author.Needs.{needs}
 use mathlib.Core.Path.{sym, _∙_}
 use Prim.Native.Nat.{_-_}
 use lib.ListN.{length}
+use Rattle.spelling.specs.Kinds as kind
 use Rattle.grammar.specs.Unread.{inside}
 use Rattle.processes.specs.Forms.{Comments}
 use Rattle.processes.specs.Processes.{comments-none, comments-more}
@@ -24,8 +25,10 @@ past-comments-spec =
     Inv-loop
     μ-loop
     (λ c. comments-none _ _ (c .before .pre))
-    (λ c κs. search needs)
-    (λ c. let l = inside (c .before .before .before .before .args .kinds .now) (c .before .before .loop .j) 3 (sym (c .before .kind-at .ensures) ∙ c .if1 .taken) (omega arith) in omega (arith, c .before .before .before .before .good))
-    (λ c. let l = inside (c .before .before .before .before .args .kinds .now) (c .before .before .loop .j) 3 (sym (c .before .kind-at .ensures) ∙ c .if1 .taken) (omega arith) in omega arith)
+    (search needs)
+    (λ c. let start = c .before .before .before .before in
+    let l = inside (start .args .kinds .now) (c .before .before .loop .j) kind.comment (sym (c .before .kind-at .ensures) ∙ c .if1 .taken) (omega arith) in omega (arith, start .good))
+    (λ c. let start = c .before .before .before .before in
+    let l = inside (start .args .kinds .now) (c .before .before .loop .j) kind.comment (sym (c .before .kind-at .ensures) ∙ c .if1 .taken) (omega arith) in omega arith)
     (λ c. comments-more _ _ _ (c .before .before .loop .inv) (sym (c .before .kind-at .ensures) ∙ c .if1 .taken))
     (λ c. (c .before .before .loop .inv, λ e. c .if1 .left (c .before .kind-at .ensures ∙ e))))

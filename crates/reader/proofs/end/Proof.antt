@@ -1,12 +1,12 @@
 -- `end` equals `ended`.
 use borrow.Author.Tests.{eq-eqb, ne-eqb}
 use borrow.Author.Needs.{needs}
+use Rattle.spelling.specs.Kinds as kind
 use Rattle.reader.proofs.end.Statement.{statement}
 use Rattle.reader.proofs.end.Tie as tie
 
 pub end-spec : {M : Type 1} → statement M
 end-spec = tie.close (tie.spec
-    (λ c κs. search needs)
-    (λ c. search needs)
-    (λ c. rw (← c .before .kind-at .ensures, eq-eqb _ 10 (c .if1 .taken)))
-    (λ c. rw (← c .before .kind-at .ensures, ne-eqb _ 10 (c .if1 .left))))
+    (search needs) (search needs)
+    (λ c. rw (← c .before .kind-at .ensures, eq-eqb _ kind.semicolon (c .if1 .taken)))
+    (λ c. rw (← c .before .kind-at .ensures, ne-eqb _ kind.semicolon (c .if1 .left))))

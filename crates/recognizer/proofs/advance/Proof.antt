@@ -5,7 +5,5 @@ use Rattle.recognizer.proofs.advance.Tie as tie
 
 pub advance-spec : {M : Type 1} → statement M
 advance-spec = tie.close (tie.spec
-    (λ c κs. search needs)
-    (λ c κs. search needs)
-    (λ c κs. search needs)
+    (search needs) (search needs) (search needs)
     (λ c. (rw (← c .before .before .before .innermost .ensures, ← c .before .before .decide .ensures) (c .apply .ensures .0), c .apply .ensures .1, c .apply .ensures .2)))

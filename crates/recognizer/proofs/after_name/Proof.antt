@@ -7,8 +7,7 @@ use Rattle.recognizer.proofs.after_name.Tie as tie
 pub after-name-spec : {M : Type 1} → statement M
 after-name-spec =
     tie.close (tie.spec
-    (λ c κs. search needs)
-    (λ c κs. search needs)
+    (search needs) (search needs)
     (λ c. rw (c .enter .ensures, c .before .deeper .ensures) (search tests depth 20))
-    (λ c κs. search needs)
+    (search needs)
     (λ c. rw (c .after-operand .ensures) (search tests depth 20)))

@@ -8,16 +8,11 @@ pub after-operand-spec : {M : Type 1} → statement M
 after-operand-spec =
     tie.close
     (tie.spec
-    (λ c κs. search needs)
-    (λ c. search needs)
-    (λ c κs. search needs)
-    (λ c κs. search needs)
+    (search needs) (search needs) (search needs) (search needs)
     (λ c. rw (c .stay .ensures, c .before .deeper .ensures) (search tests depth 20))
-    (λ c κs. search needs)
+    (search needs)
     (λ c. rw (c .after-expression .ensures) (search tests depth 20))
-    (λ c κs. search needs)
-    (λ c κs. search needs)
-    (λ c κs. search needs)
+    (search needs) (search needs) (search needs)
     (λ c. rw (c .stay2 .ensures, c .before .deeper2 .ensures) (search tests depth 20))
-    (λ c κs. search needs)
+    (search needs)
     (λ c. rw (c .after-expression2 .ensures) (search tests depth 20)))

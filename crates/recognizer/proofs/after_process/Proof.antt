@@ -8,15 +8,11 @@ pub after-process-spec : {M : Type 1} → statement M
 after-process-spec =
     tie.close
     (tie.spec
-    (λ c κs. search needs)
-    (λ c κs. search needs)
-    (λ c κs. search needs)
+    (search needs) (search needs) (search needs)
     (λ c. rw (c .expect .ensures, c .before .leave .ensures, c .before .before .deeper .ensures) (search tests depth 20))
-    (λ c κs. search needs)
-    (λ c κs. search needs)
+    (search needs) (search needs)
     (λ c. rw (c .stay .ensures, c .before .deeper2 .ensures) (search tests depth 20))
-    (λ c κs. search needs)
-    (λ c κs. search needs)
+    (search needs) (search needs)
     (λ c. rw (c .expect2 .ensures, c .before .leave2 .ensures) (search tests depth 20))
-    (λ c κs. search needs)
+    (search needs)
     (λ c. rw (c .refuse .ensures) (search tests depth 20)))

@@ -7,8 +7,7 @@ use Rattle.recognizer.proofs.after_target.Tie as tie
 pub after-target-spec : {M : Type 1} → statement M
 after-target-spec =
     tie.close (tie.spec
-    (λ c κs. search needs)
+    (search needs)
     (λ c. rw (c .stay .ensures) (search tests depth 20))
-    (λ c κs. search needs)
-    (λ c κs. search needs)
+    (search needs) (search needs)
     (λ c. rw (c .expect .ensures, c .before .enter .ensures) (search tests depth 20)))

@@ -6,5 +6,5 @@ use Rattle.recognizer.proofs.choose.Tie as tie
 
 pub choose-spec : {M : Type 1} → statement M
 choose-spec = tie.close (tie.spec
-    (λ c κs. search needs)
+    (search needs)
     (λ c. rw (c .deeper .ensures) (search tests depth 20)))

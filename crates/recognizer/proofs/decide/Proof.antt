@@ -8,11 +8,11 @@ pub decide-spec : {M : Type 1} → statement M
 decide-spec =
     tie.close
     (tie.spec
-    (λ c κs. search needs)
+    (search needs)
     (λ c. rw (c .start-program .ensures) (search tests depth 20))
-    (λ c κs. search needs)
+    (search needs)
     (λ c. rw (c .specify .ensures) (search tests depth 20))
-    (λ c κs. search needs)
+    (search needs)
     (λ c. rw (c .in-process .ensures) (search tests depth 20))
-    (λ c κs. search needs)
+    (search needs)
     (λ c. rw (c .in-expression .ensures) (search tests depth 20)))

@@ -7,5 +7,5 @@ use Rattle.recognizer.proofs.expect.Tie as tie
 pub expect-spec : {M : Type 1} → statement M
 expect-spec = tie.close (tie.spec
     (λ c. search tests depth 20)
-    (λ c κs. search needs)
+    (search needs)
     (λ c. rw (c .refuse .ensures) (search tests depth 20)))

@@ -7,8 +7,7 @@ use Rattle.recognizer.proofs.expect_constant.Tie as tie
 pub expect-constant-spec : {M : Type 1} → statement M
 expect-constant-spec =
     tie.close (tie.spec
-    (λ c κs. search needs)
+    (search needs)
     (λ c. rw (c .stay .ensures) (search tests depth 20))
-    (λ c κs. search needs)
-    (λ c κs. search needs)
+    (search needs) (search needs)
     (λ c. rw (c .expect .ensures, c .before .stay2 .ensures) (search tests depth 20)))

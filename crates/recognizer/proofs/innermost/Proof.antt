@@ -10,18 +10,8 @@ pub innermost-spec : {M : Type 1} → statement M
 innermost-spec =
     tie.close
     (tie.spec
-    (λ c κs. search needs)
+    (search needs)
     (λ c. rw (frames-none _ _ (c .before .if1 .taken)) (c .no-frame .ensures))
-    (λ c. search needs)
-    (λ c. search needs)
-    (λ c. search needs)
-    (λ c. search needs)
-    (λ c. search needs)
-    (λ c. search needs)
-    (λ c. search needs)
-    (λ c. search needs)
-    (λ c. search needs)
-    (λ c. search needs)
-    (λ c. search needs)
-    (λ c. search needs)
-    (λ c. rw (frames-some (c .before .before .before .before .args .table .now) (c .before .before .before .before .args .height) (c .before .before .before .before .args .height - 1) (omega (arith, c .before .before .before .if1 .left))) (search needs)))
+    (search needs) (search needs) (search needs) (search needs) (search needs) (search needs) (search needs) (search needs) (search needs) (search needs) (search needs) (search needs)
+    (λ c. let start = c .before .before .before .before in
+    rw (frames-some (start .args .table .now) (start .args .height) (start .args .height - 1) (omega (arith, c .before .before .before .if1 .left))) (search needs)))

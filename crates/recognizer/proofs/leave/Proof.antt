@@ -6,5 +6,5 @@ use Rattle.recognizer.proofs.leave.Tie as tie
 
 pub leave-spec : {M : Type 1} → statement M
 leave-spec = tie.close (tie.spec
-    (λ c κs. search needs)
+    (search needs)
     (λ c. rw (c .no-frame .ensures) (search tests depth 20)))

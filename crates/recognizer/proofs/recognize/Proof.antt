@@ -1,4 +1,5 @@
--- `recognizer::recognize` meets its contract. The invariant (`Stands`): the automaton's state at token i is the configuration of control and table, and the tree so far nests within 32, or is too deep where `deep` says so.
+-- `recognizer::recognize` meets its contract. The invariant (`Stands`): the automaton's state at token i is the configuration of control and table, and the tree so far nests within 32, or
+-- is too deep where `deep` says so.
 use mathlib.Core.Path.{_≡_, subst}
 use mathlib.Core.List.{List}
 use Prim.Native.Nat.{ℕ, _-_, _≤_}
@@ -26,13 +27,23 @@ recognize-spec =
     Inv-loop
     μ-loop
     (λ c. unfold frames in (omega arith, omega arith, c .before .pre .1, λ values. stands-first _ values))
-    (λ c. search needs)
+    (search needs)
     (λ c κs. let v = c .before .before .before .loop in (v .inv .2, omega (arith, v .inv .1)))
-    (λ c. let v = c .before .before .before .before .before .before .loop in let a = c .before .before .advance .ensures in (λ values. stands-bad _ values (v .i) (omega arith) _ _ (v .deep) (v .inv .3 values) (a .0) (c .if1 .taken), a .2))
-    (λ c κs. search needs)
+    (λ c. let v = c .before .before .before .before .before .before .loop in let a = c .before .before .advance .ensures in
+    (λ values. stands-bad _ values (v .i) (omega arith) _ _ (v .deep) (v .inv .3 values) (a .0) (c .if1 .taken), a .2))
+    (search needs)
     (λ c. omega arith)
     (λ c. omega arith)
-    (λ c. let v = c .before .before .before .before .before .before .before .loop in let a = c .before .before .before .advance .ensures in (omega arith, omega (arith, a .1, v .inv .1), a .2, λ values. rw (c .deep-by .ensures) (stands-next _ values (v .i) (omega arith) _ _ (v .deep) (v .inv .3 values) (a .0) (c .before .if1 .left))))
-    (λ c κs. search needs)
-    (λ c κs. search needs)
-    (λ c. let v = c .before .before .before .loop in (λ values. rw (c .at-end .ensures, c .before .complete .ensures) (subst (λ (h : ℕ). Says (length (c .before .before .before .before .before .args .kinds .now)) (reads (unread (c .before .before .before .before .before .args .kinds .now) values 0)) (ended (ends-at (v .c .mode) h) (v .deep) (v .i))) (length-frames (v .table) (v .c .height)) (stands-last _ values (v .i) _ (v .deep) (v .inv .3 values) (v .inv .0) (omega arith))), v .inv .2)))
+    (λ c. let v = c .before .before .before .before .before .before .before .loop in let a = c .before .before .before .advance .ensures in (
+      omega arith,
+      omega (arith, a .1, v .inv .1),
+      a .2,
+      λ values. rw (c .deep-by .ensures) (stands-next _ values (v .i) (omega arith) _ _ (v .deep) (v .inv .3 values) (a .0) (c .before .if1 .left)),
+    ))
+    (search needs) (search needs)
+    (λ c. let start = c .before .before .before .before .before in let v = c .before .before .before .loop in (
+      λ values. rw (c .at-end .ensures, c .before .complete .ensures)
+          (subst (λ (h : ℕ). Says (length (start .args .kinds .now)) (reads (unread (start .args .kinds .now) values 0)) (ended (ends-at (v .c .mode) h) (v .deep) (v .i)))
+          (length-frames (v .table) (v .c .height)) (stands-last _ values (v .i) _ (v .deep) (v .inv .3 values) (v .inv .0) (omega arith))),
+      v .inv .2,
+    )))

@@ -8,9 +8,7 @@ pub start-expression-spec : {M : Type 1} → statement M
 start-expression-spec =
     tie.close
     (tie.spec
-    (λ c κs. search needs)
-    (λ c κs. search needs)
-    (λ c κs. search needs)
+    (search needs) (search needs) (search needs)
     (λ c. rw (c .stay .ensures, c .before .deeper .ensures) (search tests depth 20))
-    (λ c κs. search needs)
+    (search needs)
     (λ c. rw (c .start-operand .ensures) (search tests depth 20)))

@@ -8,11 +8,9 @@ pub start-operand-spec : {M : Type 1} → statement M
 start-operand-spec =
     tie.close
     (tie.spec
-    (λ c κs. search needs)
+    (search needs)
     (λ c. rw (c .stay .ensures) (search tests depth 20))
-    (λ c κs. search needs)
+    (search needs)
     (λ c. rw (c .stay2 .ensures) (search tests depth 20))
-    (λ c κs. search needs)
-    (λ c κs. search needs)
-    (λ c κs. search needs)
+    (search needs) (search needs) (search needs)
     (λ c. rw (c .expect .ensures, c .before .enter .ensures, c .before .before .deeper .ensures) (search tests depth 20)))

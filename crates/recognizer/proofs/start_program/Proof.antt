@@ -8,13 +8,13 @@ pub start-program-spec : {M : Type 1} → statement M
 start-program-spec =
     tie.close
     (tie.spec
-    (λ c κs. search needs)
+    (search needs)
     (λ c. rw (c .stay .ensures) (search tests depth 20))
-    (λ c κs. search needs)
+    (search needs)
     (λ c. rw (c .stay2 .ensures) (search tests depth 20))
-    (λ c κs. search needs)
+    (search needs)
     (λ c. rw (c .stay3 .ensures) (search tests depth 20))
-    (λ c κs. search needs)
+    (search needs)
     (λ c. rw (c .stay4 .ensures) (search tests depth 20))
-    (λ c κs. search needs)
+    (search needs)
     (λ c. rw (c .start-process .ensures) (search tests depth 20)))

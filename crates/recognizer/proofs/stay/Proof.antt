@@ -6,5 +6,5 @@ use Rattle.recognizer.proofs.stay.Tie as tie
 
 pub stay-spec : {M : Type 1} → statement M
 stay-spec = tie.close (tie.spec
-    (λ c κs. search needs)
+    (search needs)
     (λ c. rw (c .no-frame .ensures) (search tests depth 20)))

@@ -9,10 +9,7 @@ pub complaint-spec : {M : Type 1} → statement M
 complaint-spec =
     tie.close
     (tie.spec
-    (λ c κs. search needs)
-    (λ c κs. search needs)
-    (λ c κs. search needs)
-    (λ c κs. search needs)
+    (search needs) (search needs) (search needs) (search needs)
     (λ c. unfold complaint in search tests depth 20)
     (λ c. unfold complaint in search tests depth 20)
     (λ c. unfold complaint in search tests depth 20)

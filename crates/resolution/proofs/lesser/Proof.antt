@@ -9,6 +9,9 @@ lesser-spec = tie.close (tie.spec
     (λ c. let x = c .before .before .args in lesser-first (x .a .number) (x .a .place) (x .b .number) (x .b .place) (omega arith))
     (λ c. let x = c .before .before .before .before .args in lesser-second (x .a .number) (x .a .place) (x .b .number) (x .b .place) (omega arith) (omega arith))
     (λ c. let x = c .before .before .before .before .before .before .before .args in lesser-place (x .a .number) (x .a .place) (x .b .number) (x .b .place) (omega arith) (omega arith) (omega arith))
-    (λ c. let x = c .before .before .before .before .before .before .before .before .before .before .before .before .before .args in lesser-number (x .a .number) (x .a .place) (x .b .number) (x .b .place) (omega arith) (omega arith) (omega arith) (omega arith))
-    (λ c. let x = c .before .before .before .before .before .before .before .before .before .before .before .before .before .args in lesser-greater (x .a .number) (x .a .place) (x .b .number) (x .b .place) (omega arith) (omega arith) (omega arith) (omega arith))
-    (λ c. let x = c .before .before .before .before .before .before .before .before .before .before .args in lesser-later (x .a .number) (x .a .place) (x .b .number) (x .b .place) (omega arith) (omega arith) (omega arith) (omega arith)))
+    (λ c. let x = c .before .before .before .before .before .before .before .before .before .before .before .before .before .args in
+    lesser-number (x .a .number) (x .a .place) (x .b .number) (x .b .place) (omega arith) (omega arith) (omega arith) (omega arith))
+    (λ c. let x = c .before .before .before .before .before .before .before .before .before .before .before .before .before .args in
+    lesser-greater (x .a .number) (x .a .place) (x .b .number) (x .b .place) (omega arith) (omega arith) (omega arith) (omega arith))
+    (λ c. let x = c .before .before .before .before .before .before .before .before .before .before .args in
+    lesser-later (x .a .number) (x .a .place) (x .b .number) (x .b .place) (omega arith) (omega arith) (omega arith) (omega arith)))

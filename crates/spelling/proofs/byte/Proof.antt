@@ -11,9 +11,7 @@ use Rattle.spelling.proofs.byte.Tie as tie
 pub byte-spec : {M : Type 1} → statement M
 byte-spec =
     tie.close (tie.spec
-    (λ c. search needs)
-    (λ c. search needs)
-    (λ c. search needs)
+    (search needs) (search needs) (search needs)
     (λ c. sym (getD-drop (c .before .before .before .args .i) (c .before .before .before .args .s .now) (c .before .before .before .args .k) 0))
     (λ c. sym (List·getD-eq-default (drop (c .before .before .args .i) (c .before .before .args .s .now)) 0 (simp length-drop (omega arith))))
     (λ c. sym (List·getD-eq-default (drop (c .before .args .i) (c .before .args .s .now)) 0 (simp length-drop (omega arith)))))

@@ -10,10 +10,9 @@ pub character-spec : {M : Type 1} → statement M
 character-spec =
     tie.close
     (tie.spec
-    (λ c κs. search needs)
+    (search needs)
     (λ c. unfold character in search tests depth 20)
-    (λ c κs. search needs)
+    (search needs)
     (λ c. unfold character in rw (← c .before .digit-value .ensures) (search tests depth 20))
-    (λ c. search needs)
-    (λ c κs. search needs)
+    (search needs) (search needs)
     (λ c. unfold character in rw (← c .before .before .before .digit-value .ensures) (search tests depth 20)))

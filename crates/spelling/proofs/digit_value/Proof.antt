@@ -14,16 +14,16 @@ pub digit-value-spec : {M : Type 1} → statement M
 digit-value-spec =
     tie.close
     (tie.spec
-    (λ c κs. search needs)
+    (search needs)
     (λ c. let h = leb-true 48 (c .before .before .args .b) (both _ _ (sym (c .before .within .ensures) ∙ c .if1 .taken) .0) in omega arith)
-    (λ c. search needs)
+    (search needs)
     (λ c. unfold digit-value in search tests depth 20)
-    (λ c κs. search needs)
+    (search needs)
     (λ c. let h = leb-true 97 (c .before .before .before .before .args .b) (both _ _ (sym (c .before .within2 .ensures) ∙ c .if2 .taken) .0) in omega arith)
-    (λ c. search needs)
+    (search needs)
     (λ c. unfold digit-value in search tests depth 20)
-    (λ c κs. search needs)
+    (search needs)
     (λ c. let h = leb-true 65 (c .before .before .before .before .before .before .args .b) (both _ _ (sym (c .before .within3 .ensures) ∙ c .if3 .taken) .0) in omega arith)
-    (λ c. search needs)
+    (search needs)
     (λ c. unfold digit-value in search tests depth 20)
     (λ c. unfold digit-value in search tests depth 20))

@@ -23,11 +23,10 @@ equal-spec =
     Inv-loop
     μ-loop
     (λ c. (search needs, refl))
-    (λ c. search needs)
-    (λ c. search needs)
-    (λ c. search needs)
-    (λ c. search needs)
-    (λ c. (search needs, c .before .before .before .before .loop .inv .1 ∙ same-on (c .before .before .before .before .before .before .args .a .now) (c .before .before .before .before .before .before .args .b .now) (c .before .before .before .before .loop .i) (omega arith) (omega arith) (c .if2 .taken)))
-    (λ c. sym (c .before .before .before .before .loop .inv .1 ∙ same-off (c .before .before .before .before .before .before .args .a .now) (c .before .before .before .before .before .before .args .b .now) (c .before .before .before .before .loop .i) (omega arith) (omega arith) (c .if2 .left)))
+    (search needs) (search needs) (search needs) (search needs)
+    (λ c. let turn = c .before .before .before .before .loop in let start = c .before .before .before .before .before .before in
+    (search needs, turn .inv .1 ∙ same-on (start .args .a .now) (start .args .b .now) (turn .i) (omega arith) (omega arith) (c .if2 .taken)))
+    (λ c. let turn = c .before .before .before .before .loop in let start = c .before .before .before .before .before .before in
+    sym (turn .inv .1 ∙ same-off (start .args .a .now) (start .args .b .now) (turn .i) (omega arith) (omega arith) (c .if2 .left)))
     (λ c. sym (c .before .loop .inv .1 ∙ same-end (c .before .before .before .args .a .now) (c .before .before .before .args .b .now) (c .before .loop .i) (omega arith) (omega arith)))
     (λ c. sym (same-length (c .before .args .a .now) (c .before .args .b .now) (c .if1 .left))))

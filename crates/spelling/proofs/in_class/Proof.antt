@@ -14,13 +14,9 @@ pub in-class-spec : {M : Type 1} → statement M
 in-class-spec =
     tie.close
     (tie.spec
-    (λ c. search needs)
-    (λ c κs. search needs)
-    (λ c. search needs)
-    (λ c. search needs)
-    (λ c κs. search needs)
-    (λ c. search needs)
+    (search needs) (search needs) (search needs) (search needs) (search needs) (search needs)
     (λ c. c .name-character .ensures ∙ ap (λ (k : Class). in-class k (c .before .before .before .args .b)) (sym (c .before .enum-told .given .1)))
     (λ c. rw (c .before .enum-told2 .given .1, eq-eqb (c .before .before .before .args .b) 124 (c .if1 .taken)))
     (λ c. rw (c .before .enum-told2 .given .1, ne-eqb (c .before .before .before .args .b) 124 (c .if1 .left)))
-    (λ c. ap (λ (v : ℕ). ltb v (c .before .before .class .given .0 .0)) (c .digit-value .ensures) ∙ ap (λ (k : Class). in-class k (c .before .before .before .before .args .b)) (sym (c .before .before .class .given .1))))
+    (λ c. let start = c .before .before .before .before in
+    ap (λ (v : ℕ). ltb v (c .before .before .class .given .0 .0)) (c .digit-value .ensures) ∙ ap (λ (k : Class). in-class k (start .args .b)) (sym (c .before .before .class .given .1))))

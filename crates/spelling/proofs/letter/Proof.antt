@@ -7,7 +7,6 @@ use Rattle.spelling.proofs.letter.Tie as tie
 
 pub letter-spec : {M : Type 1} → statement M
 letter-spec = tie.close (tie.spec
-    (λ c κs. search needs)
-    (λ c κs. search needs)
+    (search needs) (search needs)
     (λ c. search tests depth 20)
     (λ c. search tests depth 20))

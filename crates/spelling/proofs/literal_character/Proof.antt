@@ -10,8 +10,6 @@ pub literal-character-spec : {M : Type 1} → statement M
 literal-character-spec =
     tie.close
     (tie.spec
-    (λ c. search needs)
-    (λ c κs. search needs)
-    (λ c κs. search needs)
+    (search needs) (search needs) (search needs)
     (λ c. unfold literal-character in search tests depth 20)
     (λ c. unfold literal-character in search tests depth 20))

@@ -9,8 +9,8 @@ use Rattle.spelling.proofs.name_character.Tie as tie
 pub name-character-spec : {M : Type 1} → statement M
 name-character-spec =
     tie.close (tie.spec
-    (λ c κs. search needs)
+    (search needs)
     (λ c. unfold name-character in search tests depth 20)
-    (λ c κs. search needs)
+    (search needs)
     (λ c. unfold name-character in rw (← c .before .digit-value .ensures) (search tests depth 20))
     (λ c. unfold name-character in rw (← c .before .digit-value .ensures) (search tests depth 20)))

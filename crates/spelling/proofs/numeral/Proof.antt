@@ -18,13 +18,19 @@ abbrev μ-loop : tie.MeasureT-loop
 μ-loop s base i a₀ j₀ a j = length s - j
 
 loop-again : tie.Need-loop-again Inv-loop μ-loop
-loop-again c = let s = c .before .before .before .before .before .before .before .args .s .now in let base = c .before .before .before .before .before .before .before .args .base in let a = c .before .before .before .before .before .loop .a in let j = c .before .before .before .before .before .loop .j in let v = c .before .before .digit-value .ensures in
-    let e = numeral-in s j base a (c .before .before .before .before .loop-test .taken) (rw (← v) (lt-ltb _ _ (c .before .if1 .taken))) in
-    (omega arith, c .before .before .before .before .before .loop .inv .1 ∙ ap (λ (n : ℕ). min n 4294967296) e ∙ numeral-cut base (c .before .before .before .before .before .before .before .pre .0) (drop (j + 1) s) (a * base + characters.digit-value (getD s j 0)) (c .pushed .result) (rw (← v) (omega arith)))
+loop-again c = let loop-test = c .before .before .before .before .loop-test in let turn = c .before .before .before .before .before .loop in
+    let start = c .before .before .before .before .before .before .before in let s = start .args .s .now in let base = start .args .base in let a = turn .a in let j = turn .j in
+    let v = c .before .before .digit-value .ensures in
+    let e = numeral-in s j base a (loop-test .taken) (rw (← v) (lt-ltb _ _ (c .before .if1 .taken))) in (
+      omega arith,
+      turn .inv .1 ∙ ap (λ (n : ℕ). min n 4294967296) e
+          ∙ numeral-cut base (start .pre .0) (drop (j + 1) s) (a * base + characters.digit-value (getD s j 0)) (c .pushed .result) (rw (← v) (omega arith)),
+    )
 
 returns : tie.Need-returns Inv-loop μ-loop
-returns c = let s = c .before .before .before .before .before .before .args .s .now in let v = c .before .digit-value .ensures in
-    let e = numeral-out s (c .before .before .before .before .loop .j) (c .before .before .before .before .before .before .args .base) (c .before .before .before .before .loop .a) (c .before .before .before .loop-test .taken) (rw (← v) (le-ltb _ _ (c .if1 .left))) in omega arith
+returns c = let turn = c .before .before .before .before .loop in let start = c .before .before .before .before .before .before in let s = start .args .s .now in
+    let v = c .before .digit-value .ensures in
+    let e = numeral-out s (turn .j) (start .args .base) (turn .a) (c .before .before .before .loop-test .taken) (rw (← v) (le-ltb _ _ (c .if1 .left))) in omega arith
 
 pub numeral-spec : {M : Type 1} → statement M
 numeral-spec =
@@ -32,13 +38,7 @@ numeral-spec =
     (tie.spec
     Inv-loop
     μ-loop
-    (λ c. search needs)
-    (λ c. search needs)
-    (λ c κs. search needs)
-    (λ c. search needs)
-    (λ c κs. search needs)
-    (λ c. search needs)
-    (λ c. search needs)
+    (search needs) (search needs) (search needs) (search needs) (search needs) (search needs) (search needs)
     loop-again
     returns
     (λ c. let e = numeral-end (c .before .before .before .args .s .now) (c .before .loop .j) (c .before .before .before .args .base) (c .before .loop .a) (c .loop-test .left) in omega arith))

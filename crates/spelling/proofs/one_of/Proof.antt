@@ -22,9 +22,10 @@ one-of-spec =
     Inv-loop
     μ-loop
     (λ c. (search needs, refl))
-    (λ c. search needs)
-    (λ c. sym (c .before .before .before .loop .inv .1 ∙ one-of-in (c .before .before .before .before .args .set .now) (c .before .before .before .loop .i) (c .before .before .before .before .args .b) (c .before .before .loop-test .taken) (c .if1 .taken)))
-    (λ c. search needs)
-    (λ c. search needs)
-    (λ c. (search needs, c .before .before .before .loop .inv .1 ∙ one-of-on (c .before .before .before .before .args .set .now) (c .before .before .before .loop .i) (c .before .before .before .before .args .b) (c .before .before .loop-test .taken) (c .if1 .left)))
+    (search needs)
+    (λ c. let turn = c .before .before .before .loop in let start = c .before .before .before .before in
+    sym (turn .inv .1 ∙ one-of-in (start .args .set .now) (turn .i) (start .args .b) (c .before .before .loop-test .taken) (c .if1 .taken)))
+    (search needs) (search needs)
+    (λ c. let turn = c .before .before .before .loop in let start = c .before .before .before .before in
+    (search needs, turn .inv .1 ∙ one-of-on (start .args .set .now) (turn .i) (start .args .b) (c .before .before .loop-test .taken) (c .if1 .left)))
     (λ c. sym (c .before .loop .inv .1 ∙ one-of-end (c .before .before .args .set .now) (c .before .loop .i) (c .before .before .args .b) (c .loop-test .left))))

@@ -10,5 +10,5 @@ pub pushed-spec : {M : Type 1} → statement M
 pushed-spec = tie.close (tie.spec
     (λ c. let m = mul-le-mul (c .pre .1 .0) (c .pre .0) in omega arith)
     (λ c. let m = mul-le-mul (c .pre .1 .0) (c .pre .0) in omega arith)
-    (λ c. search needs)
-    (λ c. search needs))
+    (search needs)
+    (search needs))

@@ -22,13 +22,13 @@ span-spec =
     (tie.spec
     Inv-loop
     μ-loop
-    (λ c. search needs)
-    (λ c. search needs)
-    (λ c κs. search needs)
-    (λ c. search needs)
-    (λ c. search needs)
-    (λ c. let e = span-in (c .before .before .before .before .before .before .args .s .now) (c .before .before .before .before .loop .j) (c .before .before .before .before .before .before .args .class) (c .before .before .before .loop-test .taken) (sym (c .before .in-class .ensures) ∙ c .if1 .taken) in omega arith)
-    (λ c. search needs)
-    (λ c. let e = span-out (c .before .before .before .before .before .before .args .s .now) (c .before .before .before .before .loop .j) (c .before .before .before .before .before .before .args .class) (c .before .before .before .loop-test .taken) (sym (c .before .in-class .ensures) ∙ c .if1 .left) in omega arith)
-    (λ c. search needs)
+    (search needs) (search needs) (search needs) (search needs) (search needs)
+    (λ c. let turn = c .before .before .before .before .loop in let start = c .before .before .before .before .before .before in
+    let e = span-in (start .args .s .now) (turn .j) (start .args .class) (c .before .before .before .loop-test .taken) (sym (c .before .in-class .ensures) ∙ c .if1 .taken) in
+    omega arith)
+    (search needs)
+    (λ c. let turn = c .before .before .before .before .loop in let start = c .before .before .before .before .before .before in
+    let e = span-out (start .args .s .now) (turn .j) (start .args .class) (c .before .before .before .loop-test .taken) (sym (c .before .in-class .ensures) ∙ c .if1 .left) in
+    omega arith)
+    (search needs)
     (λ c. let e = span-end (c .before .before .before .args .s .now) (c .before .loop .j) (c .before .before .before .args .class) (c .loop-test .left) in omega arith))

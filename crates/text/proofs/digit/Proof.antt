@@ -11,9 +11,7 @@ pub digit-spec : {M : Type 1} → statement M
 digit-spec =
     tie.close
     (tie.spec
-    (λ c. search needs)
-    (λ c. search needs)
+    (search needs) (search needs)
     (λ c. pick-t _ _ _ _ (lt-ltb _ _ (c .if1 .taken)) refl)
-    (λ c. search needs)
-    (λ c. search needs)
+    (search needs) (search needs)
     (λ c. pick-f _ _ _ _ (le-ltb _ _ (c .if1 .left)) refl))

@@ -17,4 +17,4 @@ returns c =
     (joined named digits (10 ∷ []) _ _ (c .before .decimal .ensures) (c .put .ensures))
 
 pub entry-spec : {M : Type 1} → statement M
-entry-spec = tie.close (tie.spec (λ c κs. search needs) (λ c κs. search needs) (λ c κs. search needs) returns)
+entry-spec = tie.close (tie.spec (search needs) (search needs) (search needs) returns)

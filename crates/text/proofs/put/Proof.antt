@@ -21,4 +21,4 @@ returns-2 c =
     put-full (x .line .bytes) (x .line .length) (x .b ∷ []) e (c .if1 .left)
 
 pub put-spec : {M : Type 1} → statement M
-put-spec = tie.close (tie.spec (λ c. search needs) (λ c. search needs) returns returns-2)
+put-spec = tie.close (tie.spec (search needs) (search needs) returns returns-2)

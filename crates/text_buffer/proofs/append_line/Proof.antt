@@ -33,10 +33,5 @@ append-line-spec =
     (tie.spec
     array-share-prefix-bytes
     slice-aggregate-append
-    (λ c κs. search needs)
-    (λ c. search needs)
-    (λ c. search needs)
-    (λ c. search needs)
-    (λ c κs. search needs)
-    (λ c. search needs)
+    (search needs) (search needs) (search needs) (search needs) (search needs) (search needs)
     returns-2)

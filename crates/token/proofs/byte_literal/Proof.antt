@@ -10,11 +10,8 @@ pub byte-literal-spec : {M : Type 1} → statement M
 byte-literal-spec =
     tie.close
     (tie.spec
-    (λ c κs. search needs)
-    (λ c κs. search needs)
+    (search needs) (search needs)
     (λ c. unfold byte-literal in rw (← c .before .before .byte .ensures) (search tests depth 20))
-    (λ c κs. search needs)
-    (λ c. search needs)
-    (λ c κs. search needs)
+    (search needs) (search needs) (search needs)
     (λ c. unfold byte-literal in rw (← c .before .before .before .before .byte .ensures) (search tests depth 20))
     (λ c. unfold byte-literal in rw (← c .before .before .before .byte .ensures) (search tests depth 20)))

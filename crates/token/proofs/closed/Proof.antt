@@ -8,7 +8,6 @@ use Rattle.token.proofs.closed.Tie as tie
 
 pub closed-spec : {M : Type 1} → statement M
 closed-spec = tie.close (tie.spec
-    (λ c κs. search needs)
-    (λ c. search needs)
+    (search needs) (search needs)
     (λ c. unfold closed in rw (← c .before .byte .ensures) (search tests depth 20))
     (λ c. unfold closed in rw (← c .before .byte .ensures) (search tests depth 20)))

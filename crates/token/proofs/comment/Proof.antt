@@ -12,8 +12,7 @@ use Rattle.token.proofs.comment.Tie as tie
 
 pub comment-spec : {M : Type 1} → statement M
 comment-spec = tie.close (tie.spec
-    (λ c κs. search needs)
-    (λ c κs. search needs)
+    (search needs) (search needs)
     (λ c. let h = simp length-drop at (span-length Comment (drop (c .before .before .before .before .args .i) (c .before .before .before .before .args .s .now))) in omega arith)
     (λ c. unfold comment in rw (← c .before .before .span .ensures, ← c .before .byte .ensures) (search tests depth 20))
     (λ c. unfold comment in rw (← c .before .before .span .ensures, ← c .before .byte .ensures) (search tests depth 20)))

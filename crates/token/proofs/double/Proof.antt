@@ -16,7 +16,19 @@ double-spec =
     (λ c. unfold double in rw (ne-eqb (c .before .before .before .args .b) 58 (c .before .before .if1 .left), eq-eqb (c .before .before .before .args .b) 60 (c .before .if3 .taken), c .match .keys2))
     (λ c. unfold double in rw (ne-eqb (c .before .before .before .args .b) 58 (c .before .before .if1 .left), eq-eqb (c .before .before .before .args .b) 60 (c .before .if3 .taken), c .match .keys3))
     (λ c. unfold double in search tests depth 20)
-    (λ c. unfold double in rw (ne-eqb (c .before .before .before .before .args .b) 58 (c .before .before .before .if1 .left), ne-eqb (c .before .before .before .before .args .b) 60 (c .before .before .if3 .left), eq-eqb (c .before .before .before .before .args .b) 62 (c .before .if4 .taken), c .match2 .keys1))
-    (λ c. unfold double in rw (ne-eqb (c .before .before .before .before .args .b) 58 (c .before .before .before .if1 .left), ne-eqb (c .before .before .before .before .args .b) 60 (c .before .before .if3 .left), eq-eqb (c .before .before .before .before .args .b) 62 (c .before .if4 .taken), c .match2 .keys2))
+    (λ c. unfold double in let start = c .before .before .before .before in
+    rw (
+      ne-eqb (start .args .b) 58 (c .before .before .before .if1 .left),
+      ne-eqb (start .args .b) 60 (c .before .before .if3 .left),
+      eq-eqb (start .args .b) 62 (c .before .if4 .taken),
+      c .match2 .keys1,
+    ))
+    (λ c. unfold double in let start = c .before .before .before .before in
+    rw (
+      ne-eqb (start .args .b) 58 (c .before .before .before .if1 .left),
+      ne-eqb (start .args .b) 60 (c .before .before .if3 .left),
+      eq-eqb (start .args .b) 62 (c .before .if4 .taken),
+      c .match2 .keys2,
+    ))
     (λ c. unfold double in search tests depth 20)
     (λ c. unfold double in search tests depth 20))

@@ -10,11 +10,9 @@ pub escape-spec : {M : Type 1} → statement M
 escape-spec =
     tie.close
     (tie.spec
-    (λ c κs. search needs)
-    (λ c κs. search needs)
+    (search needs) (search needs)
     (λ c. unfold escape in rw (← c .before .before .byte .ensures) (search tests depth 20))
-    (λ c κs. search needs)
+    (search needs)
     (λ c. unfold escape in rw (← c .before .before .before .byte .ensures, ← c .before .escape-value .ensures) (search tests depth 20))
-    (λ c. search needs)
-    (λ c κs. search needs)
+    (search needs) (search needs)
     (λ c. unfold escape in rw (← c .before .before .before .before .byte .ensures, ← c .before .before .escape-value .ensures) (search tests depth 20)))

@@ -16,4 +16,12 @@ escape-value-spec =
     (λ c. unfold escape-value in rw (c .match .keys5))
     (λ c. unfold escape-value in rw (c .match .keys6))
     (λ c. unfold escape-value in rw (c .match .keys7))
-    (λ c. unfold escape-value in rw (ne-eqb (c .before .args .b) 99 (c .match .rest .0 .0 .0 .0 .0 .0 .1), ne-eqb (c .before .args .b) 110 (c .match .rest .0 .0 .0 .0 .0 .1), ne-eqb (c .before .args .b) 116 (c .match .rest .0 .0 .0 .0 .1), ne-eqb (c .before .args .b) 115 (c .match .rest .0 .0 .0 .1), ne-eqb (c .before .args .b) 39 (c .match .rest .0 .0 .1), ne-eqb (c .before .args .b) 34 (c .match .rest .0 .1), ne-eqb (c .before .args .b) 42 (c .match .rest .1))))
+    (λ c. unfold escape-value in rw (
+      ne-eqb (c .before .args .b) 99 (c .match .rest .0 .0 .0 .0 .0 .0 .1),
+      ne-eqb (c .before .args .b) 110 (c .match .rest .0 .0 .0 .0 .0 .1),
+      ne-eqb (c .before .args .b) 116 (c .match .rest .0 .0 .0 .0 .1),
+      ne-eqb (c .before .args .b) 115 (c .match .rest .0 .0 .0 .1),
+      ne-eqb (c .before .args .b) 39 (c .match .rest .0 .0 .1),
+      ne-eqb (c .before .args .b) 34 (c .match .rest .0 .1),
+      ne-eqb (c .before .args .b) 42 (c .match .rest .1),
+    )))

@@ -10,13 +10,9 @@ pub hexadecimal-escape-spec : {M : Type 1} → statement M
 hexadecimal-escape-spec =
     tie.close
     (tie.spec
-    (λ c κs. search needs)
-    (λ c κs. search needs)
-    (λ c κs. search needs)
-    (λ c κs. search needs)
-    (λ c. search needs)
-    (λ c. search needs)
-    (λ c κs. search needs)
-    (λ c. unfold hexadecimal-escape in rw (← c .before .before .before .before .before .before .byte .ensures, ← c .before .before .before .byte2 .ensures, ← c .before .before .before .before .before .digit-value .ensures, ← c .before .before .digit-value2 .ensures) (search tests depth 20))
-    (λ c. unfold hexadecimal-escape in rw (← c .before .before .before .before .before .byte .ensures, ← c .before .before .byte2 .ensures, ← c .before .before .before .before .digit-value .ensures, ← c .before .digit-value2 .ensures) (search tests depth 20))
+    (search needs) (search needs) (search needs) (search needs) (search needs) (search needs) (search needs)
+    (λ c. unfold hexadecimal-escape in let digit-value = c .before .before .before .before .before .digit-value in let byte = c .before .before .before .before .before .before .byte in
+    rw (← byte .ensures, ← c .before .before .before .byte2 .ensures, ← digit-value .ensures, ← c .before .before .digit-value2 .ensures) (search tests depth 20))
+    (λ c. unfold hexadecimal-escape in let digit-value = c .before .before .before .before .digit-value in let byte = c .before .before .before .before .before .byte in
+    rw (← byte .ensures, ← c .before .before .byte2 .ensures, ← digit-value .ensures, ← c .before .digit-value2 .ensures) (search tests depth 20))
     (λ c. unfold hexadecimal-escape in rw (← c .before .before .byte .ensures, ← c .before .digit-value .ensures) (search tests depth 20)))

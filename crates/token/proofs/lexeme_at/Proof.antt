@@ -11,24 +11,25 @@ pub lexeme-at-spec : {M : Type 1} → statement M
 lexeme-at-spec =
     tie.close
     (tie.spec
-    (λ c κs. search needs)
-    (λ c. search needs)
-    (λ c κs. search needs)
+    (search needs) (search needs) (search needs)
     (λ c. unfold lexeme in rw (← c .before .before .before .byte .ensures) (search tests depth 20))
-    (λ c κs. search needs)
-    (λ c κs. search needs)
+    (search needs) (search needs)
     (λ c. unfold lexeme in rw (← c .before .before .before .before .before .before .byte .ensures) (search tests depth 20))
-    (λ c κs. search needs)
-    (λ c κs. search needs)
+    (search needs) (search needs)
     (λ c. unfold lexeme in rw (← c .before .before .before .before .before .before .before .before .byte .ensures, ← c .before .before .digit-value .ensures) (search tests depth 20))
-    (λ c. search needs)
-    (λ c κs. search needs)
-    (λ c. unfold lexeme in rw (← c .before .before .before .before .before .before .before .before .before .byte .ensures, ← c .before .before .before .digit-value .ensures, drop-drop 1 (c .before .before .before .before .before .before .before .before .before .before .before .args .i) (c .before .before .before .before .before .before .before .before .before .before .before .args .s .now)) (search tests depth 20))
-    (λ c κs. search needs)
-    (λ c. unfold lexeme in rw (← c .before .before .before .before .before .before .before .before .before .before .byte .ensures, ← c .before .before .before .before .digit-value .ensures) (search tests depth 20))
-    (λ c. search needs)
-    (λ c κs. search needs)
-    (λ c. unfold lexeme in rw (← c .before .before .before .before .before .before .before .before .before .before .before .byte .ensures, ← c .before .before .before .before .before .digit-value .ensures, drop-drop 1 (c .before .before .before .before .before .before .before .before .before .before .before .before .before .args .i) (c .before .before .before .before .before .before .before .before .before .before .before .before .before .args .s .now)) (search tests depth 20))
-    (λ c κs. search needs)
-    (λ c κs. search needs)
-    (λ c. unfold lexeme in rw (← c .before .before .before .before .before .before .before .before .before .before .before .before .byte .ensures, ← c .before .byte2 .ensures, ← c .before .before .before .before .before .before .digit-value .ensures) (search tests depth 20)))
+    (search needs) (search needs)
+    (λ c. unfold lexeme in let byte = c .before .before .before .before .before .before .before .before .before .byte in
+    let start = c .before .before .before .before .before .before .before .before .before .before .before in
+    rw (← byte .ensures, ← c .before .before .before .digit-value .ensures, drop-drop 1 (start .args .i) (start .args .s .now)) (search tests depth 20))
+    (search needs)
+    (λ c. unfold lexeme in let digit-value = c .before .before .before .before .digit-value in
+    let byte = c .before .before .before .before .before .before .before .before .before .before .byte in rw (← byte .ensures, ← digit-value .ensures) (search tests depth 20))
+    (search needs) (search needs)
+    (λ c. unfold lexeme in let digit-value = c .before .before .before .before .before .digit-value in
+    let byte = c .before .before .before .before .before .before .before .before .before .before .before .byte in
+    let start = c .before .before .before .before .before .before .before .before .before .before .before .before .before in
+    rw (← byte .ensures, ← digit-value .ensures, drop-drop 1 (start .args .i) (start .args .s .now)) (search tests depth 20))
+    (search needs) (search needs)
+    (λ c. unfold lexeme in let digit-value = c .before .before .before .before .before .before .digit-value in
+    let byte = c .before .before .before .before .before .before .before .before .before .before .before .before .byte in
+    rw (← byte .ensures, ← c .before .byte2 .ensures, ← digit-value .ensures) (search tests depth 20)))

@@ -14,19 +14,17 @@ use Rattle.token.proofs.named.Tie as tie
 
 returns : tie.Need-returns
 unfolding named
-returns c = let q : c .before .before .before .before .before .args .i + c .before .before .before .span .result - c .before .before .before .before .before .args .i ≡ c .before .before .before .span .result = omega arith in
+returns c = let span = c .before .before .before .span in let start = c .before .before .before .before .before in
+    let q : start .args .i + span .result - start .args .i ≡ span .result = omega arith in
     let w = rw q at (c .word-of .ensures) in
-    rw (← c .before .before .before .span .ensures, le-leb _ 32 (c .before .before .if1 .taken), ← w)
+    rw (← span .ensures, le-leb _ 32 (c .before .before .if1 .taken), ← w)
 
 pub named-spec : {M : Type 1} → statement M
 named-spec =
     tie.close
     (tie.spec
-    (λ c κs. search needs)
-    (λ c. search needs)
-    (λ c. search needs)
-    (λ c. search needs)
+    (search needs) (search needs) (search needs) (search needs)
     (λ c. let h = simp length-drop at (span-length Name (drop (c .before .before .before .args .i) (c .before .before .before .args .s .now))) in omega arith)
-    (λ c κs. search needs)
+    (search needs)
     returns
     (λ c. unfold named in rw (← c .before .span .ensures, lt-leb _ 32 (c .if1 .left))))

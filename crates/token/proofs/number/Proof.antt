@@ -16,22 +16,24 @@ use Rattle.token.proofs.number.Tie as tie
 
 returns-2 : tie.Need-returns-2
 unfolding number
-returns-2 c = let e : characters.numeral (c .before .before .before .before .before .args .base) (drop (c .before .before .before .before .before .args .i) (c .before .before .before .before .before .args .s .now)) 0 ≡ c .before .numeral .result = omega arith in
+returns-2 c = let start = c .before .before .before .before .before in
+    let e : characters.numeral (start .args .base) (drop (start .args .i) (start .args .s .now)) 0 ≡ c .before .numeral .result = omega arith in
     rw (← c .before .before .before .span .ensures, e, ne-eqb _ 0 (c .before .before .if1 .left), le-leb _ _ (c .if2 .taken))
 
 returns-3 : tie.Need-returns-3
 unfolding number
-returns-3 c = let e : c .before .before .before .before .before .args .limit < characters.numeral (c .before .before .before .before .before .args .base) (drop (c .before .before .before .before .before .args .i) (c .before .before .before .before .before .args .s .now)) 0 = omega arith in
+returns-3 c = let start = c .before .before .before .before .before in
+    let e : start .args .limit < characters.numeral (start .args .base) (drop (start .args .i) (start .args .s .now)) 0 = omega arith in
     rw (← c .before .before .before .span .ensures, ne-eqb _ 0 (c .before .before .if1 .left), lt-leb _ _ e)
 
 pub number-spec : {M : Type 1} → statement M
 number-spec =
     tie.close
     (tie.spec
-    (λ c κs. search needs)
+    (search needs)
     (λ c. unfold number in rw (← c .before .span .ensures) (search tests depth 20))
-    (λ c κs. search needs)
-    (λ c. let h = simp length-drop at (span-length (Digit (c .before .before .before .before .before .args .base)) (drop (c .before .before .before .before .before .args .i) (c .before .before .before .before .before .args .s .now))) in omega arith)
-    (λ c. search needs)
+    (search needs)
+    (λ c. let start = c .before .before .before .before .before in let h = simp length-drop at (span-length (Digit (start .args .base)) (drop (start .args .i) (start .args .s .now))) in omega arith)
+    (search needs)
     returns-2
     returns-3)

@@ -23,4 +23,19 @@ single-spec =
     (λ c. unfold single in rw (c .match .keys12))
     (λ c. unfold single in rw (c .match .keys13))
     (λ c. unfold single in rw (c .match .keys14))
-    (λ c. unfold single in rw (ne-eqb (c .before .args .b) 43 (c .match .rest .0 .0 .0 .0 .0 .0 .0 .0 .0 .0 .0 .0 .0 .1), ne-eqb (c .before .args .b) 45 (c .match .rest .0 .0 .0 .0 .0 .0 .0 .0 .0 .0 .0 .0 .1), ne-eqb (c .before .args .b) 42 (c .match .rest .0 .0 .0 .0 .0 .0 .0 .0 .0 .0 .0 .1), ne-eqb (c .before .args .b) 61 (c .match .rest .0 .0 .0 .0 .0 .0 .0 .0 .0 .0 .1), ne-eqb (c .before .args .b) 60 (c .match .rest .0 .0 .0 .0 .0 .0 .0 .0 .0 .1), ne-eqb (c .before .args .b) 62 (c .match .rest .0 .0 .0 .0 .0 .0 .0 .0 .1), ne-eqb (c .before .args .b) 40 (c .match .rest .0 .0 .0 .0 .0 .0 .0 .1), ne-eqb (c .before .args .b) 41 (c .match .rest .0 .0 .0 .0 .0 .0 .1), ne-eqb (c .before .args .b) 91 (c .match .rest .0 .0 .0 .0 .0 .1), ne-eqb (c .before .args .b) 93 (c .match .rest .0 .0 .0 .0 .1), ne-eqb (c .before .args .b) 123 (c .match .rest .0 .0 .0 .1), ne-eqb (c .before .args .b) 125 (c .match .rest .0 .0 .1), ne-eqb (c .before .args .b) 59 (c .match .rest .0 .1), ne-eqb (c .before .args .b) 44 (c .match .rest .1))))
+    (λ c. unfold single in rw (
+      ne-eqb (c .before .args .b) 43 (c .match .rest .0 .0 .0 .0 .0 .0 .0 .0 .0 .0 .0 .0 .0 .1),
+      ne-eqb (c .before .args .b) 45 (c .match .rest .0 .0 .0 .0 .0 .0 .0 .0 .0 .0 .0 .0 .1),
+      ne-eqb (c .before .args .b) 42 (c .match .rest .0 .0 .0 .0 .0 .0 .0 .0 .0 .0 .0 .1),
+      ne-eqb (c .before .args .b) 61 (c .match .rest .0 .0 .0 .0 .0 .0 .0 .0 .0 .0 .1),
+      ne-eqb (c .before .args .b) 60 (c .match .rest .0 .0 .0 .0 .0 .0 .0 .0 .0 .1),
+      ne-eqb (c .before .args .b) 62 (c .match .rest .0 .0 .0 .0 .0 .0 .0 .0 .1),
+      ne-eqb (c .before .args .b) 40 (c .match .rest .0 .0 .0 .0 .0 .0 .0 .1),
+      ne-eqb (c .before .args .b) 41 (c .match .rest .0 .0 .0 .0 .0 .0 .1),
+      ne-eqb (c .before .args .b) 91 (c .match .rest .0 .0 .0 .0 .0 .1),
+      ne-eqb (c .before .args .b) 93 (c .match .rest .0 .0 .0 .0 .1),
+      ne-eqb (c .before .args .b) 123 (c .match .rest .0 .0 .0 .1),
+      ne-eqb (c .before .args .b) 125 (c .match .rest .0 .0 .1),
+      ne-eqb (c .before .args .b) 59 (c .match .rest .0 .1),
+      ne-eqb (c .before .args .b) 44 (c .match .rest .1),
+    )))

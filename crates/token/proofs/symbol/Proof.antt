@@ -8,8 +8,7 @@ use Rattle.token.proofs.symbol.Tie as tie
 
 pub symbol-spec : {M : Type 1} → statement M
 symbol-spec = tie.close (tie.spec
-    (λ c κs. search needs)
-    (λ c κs. search needs)
+    (search needs) (search needs)
     (λ c. unfold symbol in rw (← c .before .before .before .double .ensures, ← c .before .single .ensures) (search tests depth 20))
     (λ c. unfold symbol in rw (← c .before .before .before .double .ensures, ← c .before .single .ensures) (search tests depth 20))
     (λ c. unfold symbol in rw (← c .before .double .ensures) (search tests depth 20)))

@@ -8,5 +8,5 @@ use Rattle.token.proofs.tokens.Tie as tie
 pub tokens-spec : {M : Type 1} → statement M
 tokens-spec = tie.close (tie.spec
     (λ c. (outcome-long (c .before .before .args .source .now) (c .if1 .taken), tt))
-    (λ c κs. search needs)
-    (λ c. search needs))
+    (search needs)
+    (search needs))

@@ -4,6 +4,7 @@ use mathlib.Core.Path.{_≡_}
 use Prim.Native.Nat.{_+_, _*_}
 use native.Mathlib.Omega.{arith}
 use borrow.Author.Needs.{needs}
+use Rattle.program.specs.Layout.{row-words}
 use Rattle.values.proofs.read_row.Statement.{statement}
 use Rattle.values.proofs.read_row.Tie as tie
 
@@ -11,19 +12,6 @@ pub read-row-spec : {M : Type 1} → statement M
 read-row-spec =
     tie.close
     (tie.spec
-    (λ c. search needs)
-    (λ c. search needs)
-    (λ c. search needs)
-    (λ c. search needs)
-    (λ c. search needs)
-    (λ c. search needs)
-    (λ c. search needs)
-    (λ c. search needs)
-    (λ c. search needs)
-    (λ c. search needs)
-    (λ c. search needs)
-    (λ c. search needs)
-    (λ c. search needs)
-    (λ c. search needs)
-    (λ c. search needs)
-    (λ c. let e : 4 * c .before .before .before .before .args .r + 0 ≡ 4 * c .before .before .before .before .args .r = omega arith in rw e))
+    (search needs) (search needs) (search needs) (search needs) (search needs) (search needs) (search needs) (search needs) (search needs) (search needs) (search needs) (search needs)
+    (search needs) (search needs) (search needs)
+    (λ c. let e : row-words * c .before .before .before .before .args .r + 0 ≡ row-words * c .before .before .before .before .args .r = omega arith in rw e))

@@ -8,6 +8,5 @@ use Rattle.exec.proofs.Core.gives.Tie as tie
 
 pub gives-spec : {M : Type 1} → statement M
 gives-spec = tie.close (tie.spec
-    (λ c κs. search needs)
-    (λ c κs. search needs)
+    (search needs) (search needs)
     (λ c. c .done .ensures ∙ ap done (c .before .result .ensures)))

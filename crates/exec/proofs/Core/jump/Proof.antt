@@ -7,7 +7,5 @@ use Rattle.exec.proofs.Core.jump.Tie as tie
 
 pub jump-spec : {M : Type 1} → statement M
 jump-spec = tie.close (tie.spec
-    (λ c κs. search needs)
-    (λ c κs. search needs)
-    (λ c κs. search needs)
+    (search needs) (search needs) (search needs)
     (λ c. unfold jump in rw (c .add3 .ensures, c .before .add2 .ensures, c .before .before .add .ensures)))

@@ -7,5 +7,5 @@ use Rattle.exec.proofs.Core.moves.Tie as tie
 
 pub moves-spec : {M : Type 1} → statement M
 moves-spec = tie.close (tie.spec
-    (λ c κs. search needs)
+    (search needs)
     (λ c. unfold moves in rw (c .add .ensures)))

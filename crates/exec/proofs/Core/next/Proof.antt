@@ -7,5 +7,5 @@ use Rattle.exec.proofs.Core.next.Tie as tie
 
 pub next-spec : {M : Type 1} → statement M
 next-spec = tie.close (tie.spec
-    (λ c κs. search needs)
+    (search needs)
     (λ c. unfold next in rw (c .add .ensures)))
