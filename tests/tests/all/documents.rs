@@ -8,7 +8,7 @@ use std::collections::{BTreeMap, BTreeSet};
 use std::fs::{read_dir, read_to_string};
 use std::path::{Path, PathBuf};
 
-fn read(file: &str) -> String {
+pub fn read(file: &str) -> String {
     read_to_string(repository().join(file)).unwrap_or_else(|error| panic!("{file}: {error}"))
 }
 
@@ -19,7 +19,7 @@ fn section<'d>(document: &'d str, heading: &str) -> &'d str {
 }
 
 /// The text before each part in backquotes, and the part.
-fn quoted(text: &str) -> Vec<(&str, &str)> {
+pub fn quoted(text: &str) -> Vec<(&str, &str)> {
     let pieces: Vec<&str> = text.split('`').collect();
     pieces.chunks_exact(2).map(|pair| (pair[0], pair[1])).collect()
 }
@@ -36,7 +36,7 @@ fn stands_in(text: &str, name: &str) -> bool {
     })
 }
 
-fn no_complaints(complaints: &[String]) {
+pub fn no_complaints(complaints: &[String]) {
     assert!(complaints.is_empty(), "{}", complaints.join("\n"));
 }
 
@@ -52,7 +52,7 @@ fn file_of(part: &str) -> Option<String> {
 }
 
 /// All files below a folder.
-fn files_below(folder: &Path) -> Vec<PathBuf> {
+pub fn files_below(folder: &Path) -> Vec<PathBuf> {
     let entries = read_dir(folder).unwrap_or_else(|error| panic!("{}: {error}", folder.display()));
     let mut paths: Vec<PathBuf> = entries.map(|entry| entry.expect("a file").path()).collect();
     paths.sort();

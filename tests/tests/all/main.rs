@@ -13,6 +13,7 @@ mod machine;
 mod programs;
 mod runs;
 mod stack;
+mod unused;
 
 fn repository() -> PathBuf {
     Path::new(env!("CARGO_MANIFEST_DIR")).parent().expect("the repository").to_path_buf()
