@@ -14,6 +14,7 @@ mod language;
 mod machine;
 mod pages;
 mod programs;
+mod refusals;
 mod runs;
 mod stack;
 mod unused;
