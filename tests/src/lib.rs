@@ -4,7 +4,6 @@
 pub mod arm;
 pub mod image;
 pub mod proved;
-pub mod random;
 pub mod rendering;
 pub mod second;
 pub mod stack;

@@ -99,7 +99,7 @@ impl Reader<'_> {
     fn part(&mut self) -> Rule {
         let mark = self.next().to_string();
         match mark.chars().next().expect("a mark") {
-            '"' | '\'' => Rule::Text(mark[1..mark.len() - 1].as_bytes().to_vec()),
+            '"' | '\'' => Rule::Text(mark.as_bytes()[1..mark.len() - 1].to_vec()),
             '?' => Rule::Byte(bytes_of(&mark)),
             '(' | '[' | '{' => {
                 let inner = self.choice();

@@ -361,6 +361,9 @@ fn nothing_stands_unused() {
     print(&format!("unused: {count} definitions, all used; {} of them kept for readers", kept(&list).len()));
 }
 
+/// Texts to add, each to the end of a file.
+type Additions<'t> = &'t [(&'t str, &'t str)];
+
 /// The check itself: made-up definitions that nothing uses are noticed, used ones are not.
 #[test]
 fn unused_definitions_are_noticed() {
@@ -372,7 +375,7 @@ fn unused_definitions_are_noticed() {
     let import = "use Rattle.word.specs.Word.{made-up}";
     let called = "fn made_up() -> u32 {\n    7\n}\n";
     // the additions, and which definitions nothing uses then
-    let cases: [(&[(&str, &str)], &[&str]); 9] = [
+    let cases: [(Additions, &[&str]); 9] = [
         (&[(specs, "made-up : ℕ\nmade-up = 7")], &["made-up"]),
         (
             &[(specs, "abbrev pub made-up : ℕ → ℕ\nmade-up zero = 7\nmade-up (suc n) = made-up n")],
