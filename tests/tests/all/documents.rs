@@ -334,13 +334,26 @@ fn functions_with_a_requires() {
 
 // ── links ──
 
+/// The pages for readers.
+const PAGES: [&str; 11] = [
+    "README.md",
+    "CHANGELOG.md",
+    "CONTRIBUTING.md",
+    "docs/BENCHMARKS.md",
+    "docs/DECISIONS.md",
+    "docs/DEMANDS.md",
+    "docs/LANGUAGE.md",
+    "docs/REFUSALS.md",
+    "docs/TRANSLATION.md",
+    "examples/README.md",
+    "tests/README.md",
+];
+
 #[test]
 fn links_lead_somewhere() {
     let mut count = 0;
     let mut broken = Vec::new();
-    let tops =
-        ["README.md", "docs/DEMANDS.md", "docs/DECISIONS.md", "docs/TRANSLATION.md", "docs/BENCHMARKS.md"];
-    for document in tops.into_iter().chain(["tests/README.md", "examples/README.md"]) {
+    for document in PAGES {
         let folder = repository().join(document).parent().expect("a folder").to_path_buf();
         let text = read(document);
         for link in text.split("](").skip(1).filter_map(|rest| rest.split(')').next()) {
