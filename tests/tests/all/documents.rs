@@ -1,6 +1,6 @@
 //! The documents say what is there: docs/DEMANDS.md names files, definitions and functions that exist; README.md lists
 //! the files that the statements rest on, and no other; docs/DECISIONS.md lists the functions that have a `requires`;
-//! links lead to files.
+//! links lead to files; edits that must fail are named in one style.
 
 use crate::{print, repository};
 use std::collections::btree_map::Entry;
@@ -365,4 +365,54 @@ fn links_lead_somewhere() {
     }
     no_complaints(&broken);
     print(&format!("documents: {count} links lead to files"));
+}
+
+// ── edits ──
+
+/// What is wrong with an edit that must fail: its name says the wrong program in lower case with underscores, and it
+/// replaces a text of `src/` or `specs/` by another one.
+fn wrong_edit(name: &str, text: &str) -> Option<String> {
+    let plain = |c: char| c.is_ascii_lowercase() || c.is_ascii_digit() || c == '_';
+    let line = |label: &str| text.lines().find_map(|line| line.strip_prefix(label));
+    let wrong = match (line("file: "), line("old: "), line("new: ")) {
+        _ if !name.chars().all(plain) => "its name is not lower case with underscores",
+        (Some(file), Some(old), Some(new)) => match file.split('/').next() {
+            _ if old == new => "it changes nothing",
+            Some("src" | "specs") => return None,
+            _ => "it is of neither src/ nor specs/",
+        },
+        _ => "it has no file, old or new text",
+    };
+    Some(format!("{name}: {wrong}"))
+}
+
+#[test]
+#[ignore = "until all edits have names in one style"]
+fn edits_are_in_one_style() {
+    let files = files_below(&repository().join("crates")).into_iter();
+    let edits = files.filter(|path| path.extension().is_some_and(|e| e == "edit"));
+    let edits: Vec<(String, String)> = edits
+        .map(|path| {
+            let name = path.file_stem().expect("a name").to_string_lossy().to_string();
+            (name, read_to_string(&path).expect("an edit"))
+        })
+        .collect();
+    no_complaints(&edits.iter().filter_map(|(name, text)| wrong_edit(name, text)).collect::<Vec<_>>());
+    assert!(edits.len() > 50, "the edits were not found");
+    print(&format!("documents: {} edits that must fail, named in one style", edits.len()));
+}
+
+#[test]
+fn wrong_edits_are_noticed() {
+    let good = "Why.\nfile: src/lib.rt\nold: a < b\nnew: a <= b\n";
+    assert_eq!(wrong_edit("depth_33", good), None);
+    for (name, old, new) in [
+        ("depth-33", "", ""),
+        ("Depth_33", "", ""),
+        ("depth_33", "file: src/lib.rt", "file: proofs/a/Proof.antt"),
+        ("depth_33", "a <= b", "a < b"),
+        ("depth_33", "new: ", ""),
+    ] {
+        assert!(wrong_edit(name, &good.replace(old, new)).is_some(), "{name} {new:?} for {old:?}");
+    }
 }

@@ -320,18 +320,23 @@ fn documented(files: &Files) -> Vec<Key> {
         .collect()
 }
 
-/// The list of what is kept for readers: `crate/File name: why`, a line each.
-fn kept(list: &str) -> Vec<Key> {
+/// The list of what is kept for readers, a line each: `crate/File name: why` of a definition, `crate::NAME: why` of code.
+fn kept(files: &Files, list: &str) -> Vec<Key> {
     let lines = list.lines().filter(|line| !line.starts_with('#') && !line.trim().is_empty());
-    lines
-        .map(|line| {
-            let (what, why) = line.split_once(": ").unwrap_or_else(|| panic!("no reason: {line}"));
-            assert!(!why.trim().is_empty(), "no reason: {line}");
-            let (file, name) = what.split_once(' ').unwrap_or_else(|| panic!("no name: {line}"));
-            let (folder, file) = file.split_once('/').unwrap_or_else(|| panic!("no file: {line}"));
-            (format!("crates/{folder}/specs/{file}.antt"), name.to_string())
-        })
-        .collect()
+    let key = |line: &str| {
+        let (what, why) = line.split_once(": ").unwrap_or_else(|| panic!("no reason: {line}"));
+        assert!(!why.trim().is_empty(), "no reason: {line}");
+        if let Some((folder, name)) = what.split_once("::") {
+            let folder = format!("crates/{folder}/src/");
+            let holds =
+                |path: &&String| path.starts_with(&folder) && files[*path].definitions.contains_key(name);
+            return (files.keys().find(holds).unwrap_or(&folder).clone(), name.to_string());
+        }
+        let (file, name) = what.split_once(' ').unwrap_or_else(|| panic!("no name: {line}"));
+        let (folder, file) = file.split_once('/').unwrap_or_else(|| panic!("no file: {line}"));
+        (format!("crates/{folder}/specs/{file}.antt"), name.to_string())
+    };
+    lines.map(key).collect()
 }
 
 /// What is wrong: definitions that nothing uses, and entries of the list that are not needed.
@@ -340,7 +345,7 @@ fn wrongly_there(texts: &BTreeMap<String, String>, list: &str) -> Vec<String> {
     let mut roots = documented(&files);
     let before: BTreeSet<Key> = unused(&files, &roots).into_iter().collect();
     let mut wrong = Vec::new();
-    for key in kept(list) {
+    for key in kept(&files, list) {
         if !before.contains(&key) {
             wrong.push(format!("{} {} is listed as kept, but is not there or is used", key.0, key.1));
         }
@@ -356,9 +361,13 @@ fn nothing_stands_unused() {
     let texts = texts();
     let list = read("tests/kept.txt");
     no_complaints(&wrongly_there(&texts, &list));
-    let count: usize = read_all(&texts).values().map(|held| held.definitions.len()).sum();
+    let files = read_all(&texts);
+    let count: usize = files.values().map(|held| held.definitions.len()).sum();
     assert!(count > 3_000, "the definitions were not read as they are written");
-    print(&format!("unused: {count} definitions, all used; {} of them kept for readers", kept(&list).len()));
+    print(&format!(
+        "unused: {count} definitions, all used; {} of them kept for readers",
+        kept(&files, &list).len()
+    ));
 }
 
 /// Texts to add, each to the end of a file.
@@ -406,7 +415,17 @@ fn unused_definitions_are_noticed() {
         assert!(names.eq(want.iter().copied()), "{additions:?}: {wrong:?}");
         assert!(now.is_subset(&wrong), "{additions:?}");
     }
-    for entry in ["word/Word add: used\n", "word/Word made-up: not there\n"] {
-        assert!(wrongly_there(&whole, &(list.clone() + entry)).len() > now.len(), "{entry}");
+    let entries = [
+        "word/Word add: used",
+        "word/Word made-up: not there",
+        "word::add: used",
+        "word::made_up: not there",
+    ];
+    for entry in entries {
+        assert!(wrongly_there(&whole, &format!("{list}{entry}\n")).len() > now.len(), "{entry}");
     }
+    let mut texts = whole.clone();
+    texts.get_mut(code).expect("code").push_str("\nconst MADE_UP: u32 = 7;\n");
+    let complaints = wrongly_there(&texts, &format!("{list}word::MADE_UP: for a reader\n"));
+    assert_eq!(complaints.into_iter().collect::<BTreeSet<_>>(), now);
 }
