@@ -2,7 +2,7 @@
 //! tables of values, mistakes and limits are tried row by row. Its grammar: `ebnf`.
 
 use crate::documents::{no_complaints, read};
-use crate::pages::{blocks, code, refused_as, rows, run, translate, word, Block};
+use crate::pages::{blocks, code, defines, refused_as, rows, run, translate, word, Block};
 use crate::print;
 
 /// The declared variables and arrays of a source, in order, with their words: from its text and the table's rows.
@@ -30,6 +30,15 @@ fn put(parts: &str, names: &[(String, usize, usize)], words: &mut [u32]) -> Resu
     Ok(done)
 }
 
+/// Where the words lie: `weight 0 to 3; limit 4`.
+fn places(names: &[(String, usize, usize)]) -> String {
+    let place = |(name, first, count): &(String, usize, usize)| match count {
+        1 => format!("{name} {first}"),
+        _ => format!("{name} {first} to {}", first + count - 1),
+    };
+    names.iter().map(place).collect::<Vec<_>>().join("; ")
+}
+
 /// An example with the lines below it.
 fn example(block: &Block) -> Result<(), String> {
     let source = block.text;
@@ -42,6 +51,9 @@ fn example(block: &Block) -> Result<(), String> {
         return Err(format!("refused: {:?}", translated.answer));
     }
     let names = declared(source, &translated.table);
+    if line("words: ").is_some_and(|told| told != places(&names)) {
+        return Err(format!("its words are {}", places(&names)));
+    }
     let mut words = vec![0; translated.answer.data as usize];
     let given = put(line("starts: ").ok_or("no starting words")?, &names, &mut words)?;
     if given.contains(&false) {
@@ -70,9 +82,40 @@ fn value(expression: &str, told: &str) -> Option<String> {
     (got != want).then(|| format!("{expression}: {got:?}, not {told}"))
 }
 
+/// The limits, with the header's names for them and for their refusals.
+const LIMITS: [(&str, &str, &str); 8] = [
+    ("bytes", "SOURCE_BYTES", "LONG_SOURCE"),
+    ("tokens, each comment one", "TOKENS", "MANY_TOKENS"),
+    ("bytes of a name", "NAME_BYTES", "LONG_NAME"),
+    ("names, vals counted", "NAMES", "TOO_MUCH"),
+    ("words of all variables and arrays", "DATA_WORDS", "TOO_MUCH"),
+    ("words of an array", "DATA_WORDS", "ARRAY_LENGTH"),
+    ("depth of an expression", "DEPTH", "TOO_DEEP"),
+    ("depth of a process", "DEPTH", "TOO_DEEP"),
+];
+
+/// What is wrong with the table of limits.
+fn wrong_limits(page: &str) -> Vec<String> {
+    let header = defines();
+    let number = |name: &str| header[&format!("GUTILAMBOY_{name}")];
+    let rows: Vec<Vec<String>> = rows(page, "of a rule");
+    let told = |row: &Vec<String>| {
+        let most = row[1].split(", ").next().and_then(word);
+        (row[0].clone(), most, word(&row[2]))
+    };
+    let want =
+        LIMITS.map(|(what, most, refusal)| (what.to_string(), Some(number(most)), Some(number(refusal))));
+    let equal = rows.iter().map(told).eq(want);
+    if equal {
+        Vec::new()
+    } else {
+        vec![format!("the limits are not the header's: {rows:?}")]
+    }
+}
+
 /// What is wrong with a page, and how many examples, values and mistakes it has.
 fn complaints(page: &str) -> (Vec<String>, [usize; 3]) {
-    let mut wrong = Vec::new();
+    let mut wrong = wrong_limits(page);
     let examples: Vec<Block> = blocks(page).into_iter().filter(|block| block.language == "x").collect();
     for block in &examples {
         wrong.extend(example(block).err().map(|complaint| format!("{}{complaint}", block.text)));
@@ -112,6 +155,10 @@ fn the_page_says_what_is_so() {
 fn wrong_pages_are_noticed() {
     let page = read("docs/LANGUAGE.md");
     for (old, new) in [
+        ("limit 4; heavy 5", "limit 5; heavy 4"),
+        ("refused: 6 at 26", "refused: 6 at 25"),
+        ("| 1,024 | 5 |", "| 1,023 | 5 |"),
+        ("| 1,024 | 5 |", "| 1,024 | 6 |"),
         ("heavy = 2; i = 4", "heavy = 3; i = 4"),
         ("heavy = 2; i = 4", "heavy = 2"),
         ("limit = 100; heavy = 77", "limit = 100"),

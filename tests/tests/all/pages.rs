@@ -1,5 +1,7 @@
 //! What the pages for rule authors are read and checked with: fenced blocks, tables, answers, and runs of sources.
 
+use crate::documents::read;
+use std::collections::BTreeMap;
 use tests::arm::State;
 use tests::{needed_words, proved, Translation, CODE_BYTES, TABLE_WORDS};
 
@@ -57,6 +59,18 @@ pub fn number(text: &str) -> Option<u64> {
 
 pub fn word(text: &str) -> Option<u32> {
     number(text).and_then(|n| u32::try_from(n).ok())
+}
+
+/// The header's names that have a plain number.
+pub fn defines() -> BTreeMap<String, u32> {
+    let text = read("include/gutilamboy.h");
+    let defines = text.lines().filter_map(|line| line.strip_prefix("#define "));
+    defines
+        .filter_map(|line| {
+            let mut words = line.split_whitespace();
+            Some((words.next()?.to_string(), words.next()?.parse().ok()?))
+        })
+        .collect()
 }
 
 /// A translation, with its table and its code buffer.

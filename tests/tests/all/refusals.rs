@@ -1,7 +1,7 @@
 //! docs/REFUSALS.md says what is so: each example is tried with the proved calls, and each number has the header's name.
 
 use crate::documents::{no_complaints, quoted, read};
-use crate::pages::{number, refused_as, run, translate, translate_into};
+use crate::pages::{defines, number, refused_as, run, translate, translate_into};
 use crate::print;
 use std::collections::{BTreeMap, BTreeSet};
 use tests::arm::State;
@@ -107,18 +107,6 @@ fn example(told: &str) -> Result<(), String> {
     (answer.parse() == Ok(status)).then_some(()).ok_or_else(|| format!("it answers {status}"))
 }
 
-/// The header's status names: those of its defines that have a number and no macro argument.
-fn header() -> BTreeMap<String, u32> {
-    let text = read("include/gutilamboy.h");
-    let defines = text.lines().filter_map(|line| line.strip_prefix("#define "));
-    defines
-        .filter_map(|line| {
-            let mut words = line.split_whitespace();
-            Some((words.next()?.to_string(), words.next()?.parse().ok()?))
-        })
-        .collect()
-}
-
 /// The numbers that need a section: translation 1 to 14, SVC 0 to 2, faults 21 to 24, refusals 31 to 35.
 fn wanted() -> BTreeSet<String> {
     let numbers = (1..=14).chain(21..=24).chain(31..=35).map(|n: u32| n.to_string());
@@ -127,7 +115,7 @@ fn wanted() -> BTreeSet<String> {
 
 /// What is wrong with a page, and how many examples it has.
 fn complaints(page: &str) -> (Vec<String>, usize) {
-    let header = header();
+    let header = defines();
     let mut wrong = Vec::new();
     let mut seen = BTreeSet::new();
     let mut count = 0;
