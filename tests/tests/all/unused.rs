@@ -1,6 +1,6 @@
 //! No definition stands unused: from the exported functions, the programs and the theorems that README.md and
 //! docs/DEMANDS.md name, every definition of `specs/`, every function and constant of `src/` and every helper of `proofs/`
-//! is reached. What is kept for readers alone is named in tests/kept.txt.
+//! is reached. What is kept for readers alone is named in tests/KEPT.md.
 //!
 //! A name counts as used where it stands in the text of something used: outside its own signature and clauses, comments
 //! and the lists of `use`. Names are looked up as the file's own, then as its imports; a variable of the same name hides
@@ -320,23 +320,28 @@ fn documented(files: &Files) -> Vec<Key> {
         .collect()
 }
 
-/// The list of what is kept for readers, a line each: `crate/File name: why` of a definition, `crate::NAME: why` of code.
+/// The list of what is kept for readers, in backquotes a file and a name of definitions, or `crate::NAME` of code; then
+/// the reason.
 fn kept(files: &Files, list: &str) -> Vec<Key> {
-    let lines = list.lines().filter(|line| !line.starts_with('#') && !line.trim().is_empty());
     let key = |line: &str| {
-        let (what, why) = line.split_once(": ").unwrap_or_else(|| panic!("no reason: {line}"));
+        let parts: Vec<&str> = line.split('`').collect();
+        let why = parts.last().and_then(|rest| rest.strip_prefix(": ")).unwrap_or_default();
         assert!(!why.trim().is_empty(), "no reason: {line}");
-        if let Some((folder, name)) = what.split_once("::") {
-            let folder = format!("crates/{folder}/src/");
-            let holds =
-                |path: &&String| path.starts_with(&folder) && files[*path].definitions.contains_key(name);
-            return (files.keys().find(holds).unwrap_or(&folder).clone(), name.to_string());
+        match parts[1].split_once("::") {
+            Some((folder, name)) => {
+                let folder = format!("crates/{folder}/src/");
+                let held = files.iter().filter(|(path, _)| path.starts_with(&folder));
+                let file =
+                    held.filter(|(_, held)| held.definitions.contains_key(name)).map(|(path, _)| path).next();
+                (file.unwrap_or(&folder).clone(), name.to_string())
+            }
+            None => {
+                let (folder, file) = parts[1].split_once('/').unwrap_or_else(|| panic!("no file: {line}"));
+                (format!("crates/{folder}/specs/{file}.antt"), parts[3].to_string())
+            }
         }
-        let (file, name) = what.split_once(' ').unwrap_or_else(|| panic!("no name: {line}"));
-        let (folder, file) = file.split_once('/').unwrap_or_else(|| panic!("no file: {line}"));
-        (format!("crates/{folder}/specs/{file}.antt"), name.to_string())
     };
-    lines.map(key).collect()
+    list.lines().filter(|line| line.starts_with("- ")).map(key).collect()
 }
 
 /// What is wrong: definitions that nothing uses, and entries of the list that are not needed.
@@ -359,7 +364,7 @@ fn wrongly_there(texts: &BTreeMap<String, String>, list: &str) -> Vec<String> {
 #[ignore = "until the definitions that nothing uses are gone"]
 fn nothing_stands_unused() {
     let texts = texts();
-    let list = read("tests/kept.txt");
+    let list = read("tests/KEPT.md");
     no_complaints(&wrongly_there(&texts, &list));
     let files = read_all(&texts);
     let count: usize = files.values().map(|held| held.definitions.len()).sum();
@@ -377,11 +382,13 @@ type Additions<'t> = &'t [(&'t str, &'t str)];
 #[test]
 fn unused_definitions_are_noticed() {
     let whole = texts();
-    let list = read("tests/kept.txt");
+    let list = read("tests/KEPT.md");
     let now: BTreeSet<String> = wrongly_there(&whole, &list).into_iter().collect();
+    let folder = "crates/word";
+    let name = folder.trim_start_matches("crates/");
     let (specs, other) = ("crates/word/specs/Word.antt", "crates/word/specs/Laws.antt");
     let (code, proof) = ("crates/word/src/lib.rt", "crates/word/proofs/low_product/Proof.antt");
-    let import = "use Rattle.word.specs.Word.{made-up}";
+    let import = &*format!("use Rattle.{name}.specs.Word.{{made-up}}");
     let called = "fn made_up() -> u32 {\n    7\n}\n";
     // the additions, and which definitions nothing uses then
     let cases: [(Additions, &[&str]); 9] = [
@@ -415,17 +422,13 @@ fn unused_definitions_are_noticed() {
         assert!(names.eq(want.iter().copied()), "{additions:?}: {wrong:?}");
         assert!(now.is_subset(&wrong), "{additions:?}");
     }
-    let entries = [
-        "word/Word add: used",
-        "word/Word made-up: not there",
-        "word::add: used",
-        "word::made_up: not there",
-    ];
-    for entry in entries {
-        assert!(wrongly_there(&whole, &format!("{list}{entry}\n")).len() > now.len(), "{entry}");
+    let not_needed =
+        ["word/Word` `add", "word/Word` `made-up", &format!("{name}::add"), &format!("{name}::made_up")];
+    for entry in not_needed {
+        assert!(wrongly_there(&whole, &format!("{list}- `{entry}`: why\n")).len() > now.len(), "{entry}");
     }
     let mut texts = whole.clone();
     texts.get_mut(code).expect("code").push_str("\nconst MADE_UP: u32 = 7;\n");
-    let complaints = wrongly_there(&texts, &format!("{list}word::MADE_UP: for a reader\n"));
+    let complaints = wrongly_there(&texts, &format!("{list}- `{name}::MADE_UP`: why\n"));
     assert_eq!(complaints.into_iter().collect::<BTreeSet<_>>(), now);
 }
