@@ -1,6 +1,6 @@
 //! The documents say what is there: docs/DEMANDS.md names files, definitions and functions that exist; README.md lists
 //! the files that the statements rest on, and no other; docs/DECISIONS.md lists the functions that have a `requires`;
-//! links lead to files.
+//! links lead to files; edits that must fail are named in one style.
 
 use crate::{print, repository};
 use std::collections::btree_map::Entry;
@@ -8,7 +8,7 @@ use std::collections::{BTreeMap, BTreeSet};
 use std::fs::{read_dir, read_to_string};
 use std::path::{Path, PathBuf};
 
-fn read(file: &str) -> String {
+pub fn read(file: &str) -> String {
     read_to_string(repository().join(file)).unwrap_or_else(|error| panic!("{file}: {error}"))
 }
 
@@ -19,7 +19,7 @@ fn section<'d>(document: &'d str, heading: &str) -> &'d str {
 }
 
 /// The text before each part in backquotes, and the part.
-fn quoted(text: &str) -> Vec<(&str, &str)> {
+pub fn quoted(text: &str) -> Vec<(&str, &str)> {
     let pieces: Vec<&str> = text.split('`').collect();
     pieces.chunks_exact(2).map(|pair| (pair[0], pair[1])).collect()
 }
@@ -36,7 +36,7 @@ fn stands_in(text: &str, name: &str) -> bool {
     })
 }
 
-fn no_complaints(complaints: &[String]) {
+pub fn no_complaints(complaints: &[String]) {
     assert!(complaints.is_empty(), "{}", complaints.join("\n"));
 }
 
@@ -52,7 +52,7 @@ fn file_of(part: &str) -> Option<String> {
 }
 
 /// All files below a folder.
-fn files_below(folder: &Path) -> Vec<PathBuf> {
+pub fn files_below(folder: &Path) -> Vec<PathBuf> {
     let entries = read_dir(folder).unwrap_or_else(|error| panic!("{}: {error}", folder.display()));
     let mut paths: Vec<PathBuf> = entries.map(|entry| entry.expect("a file").path()).collect();
     paths.sort();
@@ -391,13 +391,26 @@ fn functions_with_a_requires() {
 
 // ── links ──
 
+/// The pages for readers.
+const PAGES: [&str; 11] = [
+    "README.md",
+    "CHANGELOG.md",
+    "CONTRIBUTING.md",
+    "docs/BENCHMARKS.md",
+    "docs/DECISIONS.md",
+    "docs/DEMANDS.md",
+    "docs/LANGUAGE.md",
+    "docs/REFUSALS.md",
+    "docs/TRANSLATION.md",
+    "examples/README.md",
+    "tests/README.md",
+];
+
 #[test]
 fn links_lead_somewhere() {
     let mut count = 0;
     let mut broken = Vec::new();
-    let tops =
-        ["README.md", "docs/DEMANDS.md", "docs/DECISIONS.md", "docs/TRANSLATION.md", "docs/BENCHMARKS.md"];
-    for document in tops.into_iter().chain(["tests/README.md", "examples/README.md"]) {
+    for document in PAGES {
         let folder = repository().join(document).parent().expect("a folder").to_path_buf();
         let text = read(document);
         for link in text.split("](").skip(1).filter_map(|rest| rest.split(')').next()) {
@@ -409,4 +422,54 @@ fn links_lead_somewhere() {
     }
     no_complaints(&broken);
     print(&format!("documents: {count} links lead to files"));
+}
+
+// ── edits ──
+
+/// What is wrong with an edit that must fail: its name says the wrong program in lower case with underscores, and it
+/// replaces a text of `src/` or `specs/` by another one.
+fn wrong_edit(name: &str, text: &str) -> Option<String> {
+    let plain = |c: char| c.is_ascii_lowercase() || c.is_ascii_digit() || c == '_';
+    let line = |label: &str| text.lines().find_map(|line| line.strip_prefix(label));
+    let wrong = match (line("file: "), line("old: "), line("new: ")) {
+        _ if !name.chars().all(plain) => "its name is not lower case with underscores",
+        (Some(file), Some(old), Some(new)) => match file.split('/').next() {
+            _ if old == new => "it changes nothing",
+            Some("src" | "specs") => return None,
+            _ => "it is of neither src/ nor specs/",
+        },
+        _ => "it has no file, old or new text",
+    };
+    Some(format!("{name}: {wrong}"))
+}
+
+#[test]
+#[ignore = "until all edits have names in one style"]
+fn edits_are_in_one_style() {
+    let files = files_below(&repository().join("crates")).into_iter();
+    let edits = files.filter(|path| path.extension().is_some_and(|e| e == "edit"));
+    let edits: Vec<(String, String)> = edits
+        .map(|path| {
+            let name = path.file_stem().expect("a name").to_string_lossy().to_string();
+            (name, read_to_string(&path).expect("an edit"))
+        })
+        .collect();
+    no_complaints(&edits.iter().filter_map(|(name, text)| wrong_edit(name, text)).collect::<Vec<_>>());
+    assert!(edits.len() > 50, "the edits were not found");
+    print(&format!("documents: {} edits that must fail, named in one style", edits.len()));
+}
+
+#[test]
+fn wrong_edits_are_noticed() {
+    let good = "Why.\nfile: src/lib.rt\nold: a < b\nnew: a <= b\n";
+    assert_eq!(wrong_edit("depth_33", good), None);
+    for (name, old, new) in [
+        ("depth-33", "", ""),
+        ("Depth_33", "", ""),
+        ("depth_33", "file: src/lib.rt", "file: proofs/a/Proof.antt"),
+        ("depth_33", "a <= b", "a < b"),
+        ("depth_33", "new: ", ""),
+    ] {
+        assert!(wrong_edit(name, &good.replace(old, new)).is_some(), "{name} {new:?} for {old:?}");
+    }
 }
