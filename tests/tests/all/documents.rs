@@ -444,7 +444,6 @@ fn wrong_edit(name: &str, text: &str) -> Option<String> {
 }
 
 #[test]
-#[ignore = "until all edits have names in one style"]
 fn edits_are_in_one_style() {
     let files = files_below(&repository().join("crates")).into_iter();
     let edits = files.filter(|path| path.extension().is_some_and(|e| e == "edit"));

@@ -361,7 +361,6 @@ fn wrongly_there(texts: &BTreeMap<String, String>, list: &str) -> Vec<String> {
 }
 
 #[test]
-#[ignore = "until the definitions that nothing uses are gone"]
 fn nothing_stands_unused() {
     let texts = texts();
     let list = read("tests/KEPT.md");
