@@ -97,7 +97,7 @@ struct gutilamboy_state {
 /* Status of step and run: an instruction completed, or the limit was reached; an SVC, whose number is `number`, a
  * finish, stop or bad subscript of an image; a fault; a refusal, which start gives too. `number` is 0 but of an SVC.
  * After a fault, a refusal or an SVC state and memory are as before that instruction: pc stands at it. Each check of
- * a subscript has its own SVC, so the pc of a bad subscript tells which one failed. */
+ * a subscript has two SVCs of its own, so the pc of a bad subscript tells which check failed. */
 #define GUTILAMBOY_DONE 0
 #define GUTILAMBOY_SVC 1
 #define GUTILAMBOY_FAULT_FETCH 21       /* pc odd, or a byte of the instruction outside code */

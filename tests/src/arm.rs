@@ -201,7 +201,7 @@ pub fn disassemble(h: u16, next: u16) -> Option<Instr> {
     Some(i)
 }
 
-#[derive(Clone, Debug, PartialEq, Eq)]
+#[derive(Clone, Debug, Default, PartialEq, Eq)]
 pub struct State {
     pub r: [u32; 8],
     pub sp: u32,

@@ -3,8 +3,8 @@
 
 pub mod arm;
 pub mod image;
+pub mod plain;
 pub mod proved;
-pub mod random;
 pub mod rendering;
 pub mod second;
 pub mod stack;

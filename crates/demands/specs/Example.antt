@@ -31,7 +31,7 @@ abbrev five : Program
 five = record { declarations = var ∷ []; body = assign (record { row = 0; offset = 0 }) (diadic plus (constant 2) (constant 3)) }
 
 abbrev memory : List ℕ
-memory = replicate 13 0xDEADBEEF
+memory = replicate 13 0xFFFFFFFF
 
 accepted-five : front source 32 640 ≡ accepted 8 five
 unfolding front outcome scan lexeme lexemes.named lexemes.number double single symbol one-of digit-value name-character span numeral same word middle-word late-word reads run

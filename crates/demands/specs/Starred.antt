@@ -50,7 +50,7 @@ abbrev pub seen : Outcome → List ℕ
 seen (refused n p) = n ∷ p ∷ []
 seen (accepted n q) = 0 ∷ 0 ∷ n ∷ data-words (q .declarations) ∷ deepest (q .body) ∷ needed (data-words (q .declarations)) (deepest (q .body)) ∷ table-of q
 
--- what the public calls come to one after another: translate, start on the needed words, all 0, by the answer's D and N, and a run of at most 100 instructions:
+-- what the public calls come to one after another: translate, start on the needed words, none of them 0 or -1, by the answer's D and N, and a run of at most 100 instructions:
 -- the three statuses, the SVC's number and the D words
 abbrev pub ended : Translation → ℕ → RunAfter → List ℕ
 ended t start r = t .status ∷ start ∷ r .state .status ∷ r .state .number ∷ take (t .«data») (r .words)
@@ -62,7 +62,7 @@ abbrev pub run-on : Translation → List ℕ → List ℕ → List ℕ
 run-on t code memory = run-image t code memory (startOf code memory (t .«data») (t .depth))
 
 abbrev pub run-all : Translated → List ℕ
-run-all t = run-on (t .answer) (take (t .answer .code) (t .code)) (replicate (needed (t .answer .«data») (t .answer .depth)) 0)
+run-all t = run-on (t .answer) (take (t .answer .code) (t .code)) (replicate (needed (t .answer .«data») (t .answer .depth)) 7)
 
 -- status, count of halfwords and the halfwords
 abbrev pub halfwords : Encoded → List ℕ

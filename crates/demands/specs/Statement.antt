@@ -36,7 +36,7 @@ pub record Refused (source : List ℕ) (table code n p : ℕ) (t : Translated) :
   pub no-depth : t .answer .depth ≡ 0
   pub no-code : t .answer .code ≡ 0
 
--- "A faulting instruction changes no register and no word"; nor does an SVC or a refusal
+-- "An instruction that faults changes no register and no word"; nor does an SVC or a refusal
 pub record Unchanged (code words : List ℕ) (m : Machine) : Type 0 where
   pub machine : stepOf code words m .after .state .machine ≡ m
   pub memory : stepOf code words m .after .words ≡ words

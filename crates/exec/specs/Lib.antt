@@ -3,3 +3,5 @@ pub mod State
 pub mod Exec
 pub mod Lookup
 pub mod Outcome
+pub mod Core
+pub mod CoreLaws

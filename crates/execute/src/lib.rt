@@ -1,8 +1,9 @@
 // What one instruction does to the machine's state and to the lent words: one arm an instruction.
 ghost use mathlib.Core.Path.{_≡_};
+ghost use Rattle.exec.specs.Core as cores;
 ghost use Rattle.exec.specs.Exec as spec;
-use exec::Machine;
-use exec::Stepped;
+use exec::Core;
+use exec::Turn;
 use exec::times4;
 use thumb::Instr;
 use word::add;
@@ -13,44 +14,64 @@ use word::shift_right;
 use word::shift_right_signed;
 use word::sub;
 
-// One instruction.
-pub fn execute(machine: Machine, i: Instr, code: &[u8], memory: &mut [u32]) -> Stepped
-    ensures { λ r. ⌜ spec.after r (now (memory .exit)) ≡ spec.executeOf (now (code .entry)) (now (memory .entry)) machine i .after ⌝ }
+// One instruction. A branch returns from its own arm: as a value chosen by the test, the next pc would wait for it.
+pub fn execute(core: Core, i: Instr, code: &[u8], memory: &mut [u32]) -> Turn
+    ensures { λ r. ⌜ cores.turned r (now (memory .exit)) ≡ spec.executeOf (now (code .entry)) (now (memory .entry)) (cores.whole core) i .after ⌝ }
 {
     match i {
-        Instr::Shli(n, l, d) => machine.gives(d, shift_left(machine.reg(l), n as u32)),
-        Instr::Shri(n, l, d) => machine.gives(d, shift_right(machine.reg(l), n as u32)),
-        Instr::Ashri(n, l, d) => machine.gives(d, shift_right_signed(machine.reg(l), n as u32)),
-        Instr::Addr(r, l, d) => machine.gives(d, add(machine.reg(l), machine.reg(r))),
-        Instr::Subr(r, l, d) => machine.gives(d, sub(machine.reg(l), machine.reg(r))),
-        Instr::Movi(d, u) => machine.gives(d, u as u32),
-        Instr::Addi(d, u) => machine.gives(d, add(machine.reg(d), u as u32)),
-        Instr::Subi(d, u) => machine.gives(d, sub(machine.reg(d), u as u32)),
-        Instr::Ldrpci(d, u) => machine.load(d, add(machine.here(), times4(u)), code, memory),
-        Instr::Strspi(d, u) => machine.store(d, add(machine.sp, times4(u)), memory),
-        Instr::Ldrspi(d, u) => machine.load(d, add(machine.sp, times4(u)), code, memory),
-        Instr::Addpci(d, u) => machine.takes(d, add(machine.here(), times4(u))).done(),
-        Instr::Addspi(d, u) => machine.takes(d, add(machine.sp, times4(u))).done(),
-        Instr::Andr(r, d) => machine.gives(d, machine.reg(d) & machine.reg(r)),
-        Instr::Xorr(r, d) => machine.gives(d, machine.reg(d) ^ machine.reg(r)),
-        Instr::Shl(r, d) => machine.gives(d, shift_left(machine.reg(d), machine.reg(r) % 256)),
-        Instr::Shr(r, d) => machine.gives(d, shift_right(machine.reg(d), machine.reg(r) % 256)),
-        Instr::Negr(r, d) => machine.gives(d, sub(0, machine.reg(r))),
-        Instr::Orr(r, d) => machine.gives(d, machine.reg(d) | machine.reg(r)),
-        Instr::Mul(r, d) => machine.gives(d, low_product(machine.reg(d), machine.reg(r))),
-        Instr::Mvnr(r, d) => machine.gives(d, complement(machine.reg(r))),
-        Instr::Str(x, b, d) => machine.store(d, add(machine.reg(b), machine.reg(x)), memory),
-        Instr::Ldr(x, b, d) => machine.load(d, add(machine.reg(b), machine.reg(x)), code, memory),
-        Instr::Stri(u, b, d) => machine.store(d, add(machine.reg(b), times4(u)), memory),
-        Instr::Ldri(u, b, d) => machine.load(d, add(machine.reg(b), times4(u)), code, memory),
-        Instr::Incsp(u) => machine.moves(add(machine.sp, times4(u))).done(),
-        Instr::Decsp(u) => machine.moves(sub(machine.sp, times4(u))).done(),
-        Instr::Svc(u) => machine.ended(u),
-        Instr::Beq(k) => machine.branch(machine.rs == 0, k).done(),
-        Instr::Bne(k) => machine.branch(machine.rs != 0, k).done(),
-        Instr::Bge(k) => machine.branch(machine.rs < 0x8000_0000, k).done(),
-        Instr::Blt(k) => machine.branch(machine.rs >= 0x8000_0000, k).done(),
-        Instr::Bu(k) => machine.jump(k).done(),
-        Instr::Bl(k) => machine.link(k).done(),
+        Instr::Shli(n, l, d) => core.gives(d, shift_left(core.reg(l), n as u32)),
+        Instr::Shri(n, l, d) => core.gives(d, shift_right(core.reg(l), n as u32)),
+        Instr::Ashri(n, l, d) => core.gives(d, shift_right_signed(core.reg(l), n as u32)),
+        Instr::Addr(r, l, d) => core.gives(d, add(core.reg(l), core.reg(r))),
+        Instr::Subr(r, l, d) => core.gives(d, sub(core.reg(l), core.reg(r))),
+        Instr::Movi(d, u) => core.gives(d, u as u32),
+        Instr::Addi(d, u) => core.gives(d, add(core.reg(d), u as u32)),
+        Instr::Subi(d, u) => core.gives(d, sub(core.reg(d), u as u32)),
+        Instr::Ldrpci(d, u) => core.load(d, add(core.here(), times4(u)), code, memory),
+        Instr::Strspi(d, u) => core.store(d, add(core.sp, times4(u)), memory),
+        Instr::Ldrspi(d, u) => core.load(d, add(core.sp, times4(u)), code, memory),
+        Instr::Addpci(d, u) => core.takes(d, add(core.here(), times4(u))).done(),
+        Instr::Addspi(d, u) => core.takes(d, add(core.sp, times4(u))).done(),
+        Instr::Andr(r, d) => core.gives(d, core.reg(d) & core.reg(r)),
+        Instr::Xorr(r, d) => core.gives(d, core.reg(d) ^ core.reg(r)),
+        Instr::Shl(r, d) => core.gives(d, shift_left(core.reg(d), core.reg(r) % 256)),
+        Instr::Shr(r, d) => core.gives(d, shift_right(core.reg(d), core.reg(r) % 256)),
+        Instr::Negr(r, d) => core.gives(d, sub(0, core.reg(r))),
+        Instr::Orr(r, d) => core.gives(d, core.reg(d) | core.reg(r)),
+        Instr::Mul(r, d) => core.gives(d, low_product(core.reg(d), core.reg(r))),
+        Instr::Mvnr(r, d) => core.gives(d, complement(core.reg(r))),
+        Instr::Str(x, b, d) => core.store(d, add(core.reg(b), core.reg(x)), memory),
+        Instr::Ldr(x, b, d) => core.load(d, add(core.reg(b), core.reg(x)), code, memory),
+        Instr::Stri(u, b, d) => core.store(d, add(core.reg(b), times4(u)), memory),
+        Instr::Ldri(u, b, d) => core.load(d, add(core.reg(b), times4(u)), code, memory),
+        Instr::Incsp(u) => core.moves(add(core.sp, times4(u))).done(),
+        Instr::Decsp(u) => core.moves(sub(core.sp, times4(u))).done(),
+        Instr::Svc(u) => core.ended(u),
+        Instr::Beq(k) => {
+            if core.rs == 0 {
+                return core.jump(k).done();
+            }
+            core.next().done()
+        }
+        Instr::Bne(k) => {
+            if core.rs != 0 {
+                return core.jump(k).done();
+            }
+            core.next().done()
+        }
+        Instr::Bge(k) => {
+            if core.rs < 0x8000_0000 {
+                return core.jump(k).done();
+            }
+            core.next().done()
+        }
+        Instr::Blt(k) => {
+            if core.rs >= 0x8000_0000 {
+                return core.jump(k).done();
+            }
+            core.next().done()
+        }
+        Instr::Bu(k) => core.jump(k).done(),
+        Instr::Bl(k) => core.link(k).done(),
     }
 }

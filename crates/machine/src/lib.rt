@@ -2,12 +2,15 @@
 ghost use mathlib.Core.Path.{_≡_};
 ghost use Prim.Native.Nat.{_+_, _<_, _≤_};
 ghost use lib.ListN.{length, getD};
+ghost use Rattle.exec.specs.Core as cores;
 ghost use Rattle.exec.specs.Exec as exec_spec;
 ghost use Rattle.machine.specs.Start as starts;
 ghost use Rattle.machine.specs.Step as steps;
 ghost use Rattle.machine.specs.Run as runs;
+use exec::Core;
 use exec::Machine;
 use exec::Stepped;
+use exec::Turn;
 use thumb::Decoded;
 
 // What a run did (as a step's status and number; 0 where the limit was reached), and how many instructions it completed.
@@ -76,17 +79,18 @@ fn fetch(code: &[u8], pc: u32) -> Fetched
     with_second(code, i, half(code, i))
 }
 
-// Fetch, decode, execute.
-fn once(machine: Machine, code: &[u8], memory: &mut [u32]) -> Stepped
-    ensures { λ r. ⌜ exec_spec.after r (now (memory .exit)) ≡ steps.onceOf (now (code .entry)) (now (memory .entry)) machine .after ⌝ }
+// Fetch, decode, execute. The loop of `run` is its only caller, and it is decode's and execute's: the compiler builds such a
+// function into its caller, and the state stays where it is from one instruction to the next.
+fn once(core: Core, code: &[u8], memory: &mut [u32]) -> Turn
+    ensures { λ r. ⌜ cores.turned r (now (memory .exit)) ≡ steps.onceOf (now (code .entry)) (now (memory .entry)) (cores.whole core) .after ⌝ }
 {
-    let Fetched::Halves(h, k) = fetch(code, machine.pc) else {
-        return machine.fault(21);
+    let Fetched::Halves(h, k) = fetch(code, core.pc) else {
+        return core.fault(21);
     };
     let Decoded::Known(i) = thumb::decode(h, k) else {
-        return machine.fault(22);
+        return core.fault(22);
     };
-    execute::execute(machine, i, code, memory)
+    execute::execute(core, i, code, memory)
 }
 
 // 31 code too long, 32 memory too long, or 0.
@@ -102,25 +106,15 @@ fn refusal(code: &[u8], memory: &[u32]) -> u32
     0
 }
 
-// One instruction.
-pub fn step(machine: Machine, code: &[u8], memory: &mut [u32]) -> Stepped
-    ensures { λ r. ⌜ exec_spec.after r (now (memory .exit)) ≡ steps.stepOf (now (code .entry)) (now (memory .entry)) machine .after ⌝ }
+// What a run hands back.
+fn stopped(turn: Turn, count: u64) -> Ran
+    ensures { λ r. ⌜ r ≡ runs.ran (cores.stepped turn) count ⌝ }
 {
-    let refused = refusal(code, memory);
-    if refused != 0 {
-        return machine.fault(refused);
-    }
-    once(machine, code, memory)
-}
-
-fn stopped(s: Stepped, count: u64) -> Ran
-    ensures { λ r. ⌜ r ≡ runs.ran s count ⌝ }
-{
-    let machine = s.machine;
+    let core = turn.core;
     Ran {
-        machine,
-        status: s.status,
-        number: s.number,
+        machine: core.whole(),
+        status: turn.status,
+        number: turn.number,
         count,
     }
 }
@@ -129,29 +123,37 @@ fn stopped(s: Stepped, count: u64) -> Ran
 pub fn run(machine: Machine, code: &[u8], memory: &mut [u32], limit: u64) -> Ran
     ensures { λ r. ⌜ runs.run-after r (now (memory .exit)) ≡ runs.runOf limit (now (code .entry)) (now (memory .entry)) machine ⌝ }
 {
+    let mut core = machine.core();
     let refused = refusal(code, memory);
     if refused != 0 {
-        return stopped(machine.fault(refused), 0);
+        return stopped(core.fault(refused), 0);
     }
-    let mut m = machine;
     let mut k: u64 = 0;
     while k < limit {
-        let s = once(m, code, memory);
-        let status = s.status;
+        let turn = once(core, code, memory);
+        let status = turn.status;
         if status == 1 {
-            return stopped(s, k + 1);
+            return stopped(turn, k + 1);
         }
         if status != 0 {
-            return stopped(s, k);
+            return stopped(turn, k);
         }
-        m = s.machine;
+        core = turn.core;
         k += 1;
     }
-    Ran {
-        machine: m,
-        status: 0,
-        number: 0,
-        count: k,
+    stopped(core.done(), k)
+}
+
+// One instruction: a run of at most one.
+pub fn step(machine: Machine, code: &[u8], memory: &mut [u32]) -> Stepped
+    ensures { λ r. ⌜ exec_spec.after r (now (memory .exit)) ≡ steps.stepOf (now (code .entry)) (now (memory .entry)) machine .after ⌝ }
+{
+    let ran = run(machine, code, memory, 1);
+    let after = ran.machine;
+    Stepped {
+        machine: after,
+        status: ran.status,
+        number: ran.number,
     }
 }
 

@@ -1,15 +1,15 @@
 -- Numbers and back: an instruction comes back from its numbers, a state from its words, and words from their state. Laws; rests on Numbers.
-use mathlib.Core.Path.{_≡_, refl, sym, ap, _∙_}
-use mathlib.Core.List.{List, [], _∷_}
-use Prim.Native.Nat.{ℕ, zero, suc, _+_}
+use mathlib.Core.Path.{_≡_, refl, sym, ap}
+use mathlib.Core.List.{List}
+use Prim.Native.Nat.{ℕ}
 use native.Mathlib.Omega.{arith}
-use lib.ListN.{length, getD, drop}
-use lib.Seq.{drop-cons, drop-length}
+use lib.ListN.{length, getD}
 use Rattle.thumb.specs.declared.Instr.{Instr}
 use Rattle.thumb.specs.declared.Instr.the-variants.{Shli, Shri, Ashri, Addr, Subr, Movi, Addi, Subi, Ldrpci, Strspi, Ldrspi, Addpci, Addspi, Andr, Xorr, Shl, Shr, Negr, Orr, Mul, Mvnr, Str, Ldr}
 use Rattle.thumb.specs.declared.Instr.the-variants.{Stri, Ldri, Incsp, Decsp, Svc, Beq, Bne, Bge, Blt, Bu, Bl}
 use Rattle.thumb.specs.declared.Decoded.{Decoded}
 use Rattle.thumb.specs.declared.Decoded.the-variants.{Known, Unknown}
+use Rattle.exec.specs.CoreLaws.{elements, elements-are}
 use Rattle.exec.specs.declared.Machine.{Machine}
 use Rattle.numbers.specs.Numbers.{instructions, instructionOf, instructionWords, decodedWords, stateWords, stateOf}
 
@@ -61,16 +61,6 @@ decoding-back (Known i) = instruction-back i
 decoding-back Unknown = refl
 
 -- ── states ──
-
--- n elements of a list from the i-th on
-elements : ℕ → ℕ → List ℕ → List ℕ
-elements zero i s = []
-elements (suc n) i s = getD s i 0 ∷ elements n (suc i) s
-
-elements-are : (n i : ℕ) (s : List ℕ) → length s ≡ i + n → drop i s ≡ elements n i s
-unfolding elements
-elements-are zero i s e = let z : i ≡ length s = omega arith in rw z (drop-length s)
-elements-are (suc n) i s e = drop-cons s i 0 (omega arith) ∙ ap (λ (l : List ℕ). getD s i 0 ∷ l) (elements-are n (suc i) s (omega arith))
 
 pub words-back : (s : List ℕ) → length s ≡ 12 → stateWords (stateOf s) ≡ s
 unfolding elements

@@ -1,6 +1,6 @@
--- The premises can be met, and the definitions compute: document 01's `var x; x := 2 + 3`, and a loop over an array that ends by a bad subscript. Instances.
+-- The premises can be met, and the definitions compute: document 01's `var x; x := 2 + 3`, a loop over an array that ends by a bad subscript, and what calls count. Instances.
 use mathlib.Core.Path.{_≡_, refl}
-use mathlib.Core.List.{List, [], _∷_}
+use mathlib.Core.List.{List, [], _∷_, map}
 use Prim.Native.Nat.{ℕ, _≤_, _<_}
 use mathlib.Core.Bool.{true}
 use native.Mathlib.Omega.{arith}
@@ -26,16 +26,16 @@ use Rattle.machine.specs.Run.{runFrom, runOf}
 use Rattle.machine.specs.Start.{startRefusal, startOf}
 use Rattle.machine.specs.Trace.{listed}
 use Rattle.program.specs.Sound.{Sound, here}
-use Rattle.simulate.specs.Statement.{Each, Lent, Orderly, EndsBy, tried, trace-of, started, Demand3}
+use Rattle.simulate.specs.Statement.{Each, Lent, Call, step, run, Called, calls, Orderly, Answered, EndsBy, tried, trace-of, started, Demand3}
 use Rattle.simulate.specs.Theorem.{demand3}
 
 -- var x; x := 2 + 3
 five : Program
 five = record { declarations = var ∷ []; body = assign (record { row = 0; offset = 0 }) (diadic plus (constant 2) (constant 3)) }
 
--- 13 needed words, and one more
+-- 13 needed words, and one more; among them the largest word
 lent-words : List ℕ
-lent-words = 7 ∷ 1 ∷ 2 ∷ 3 ∷ 4 ∷ 5 ∷ 6 ∷ 7 ∷ 8 ∷ 9 ∷ 10 ∷ 11 ∷ 12 ∷ 99 ∷ []
+lent-words = 7 ∷ 1 ∷ 2 ∷ 3 ∷ 4 ∷ 5 ∷ 6 ∷ 7 ∷ 8 ∷ 9 ∷ 10 ∷ 11 ∷ 0xFFFFFFFF ∷ 99 ∷ []
 
 five-image : length (image five) ≡ 32
 unfolding five image image-code process-code expression-code push-constant work-diadic-code assign-variable load-constant trailingZeros leadingZeros bytes bytes-of encoded-bytes encodeOf put
@@ -91,6 +91,34 @@ module _ (e : Effect) (o : Orderly five lent-words e) where
       → (j : ℕ) × (ends-with (moves j (begin five lent-words) .end) (e .after .state .number) ≡ true) × (take 1 (e .after .words) ≡ moves j (begin five lent-words) .words)
   unfolding five data-words
   five-ended h = let x = o .ended h in (x .j, x .ends, x .same-words)
+
+module _ (a : Called) (o : Answered five lent-words a) where
+  five-answered : (a .status < 2) × (a .count ≡ length (a .tries))
+  five-answered = (o .not-refused, o .counted)
+
+  five-left : (0x20000004 ≤ a .machine .sp) × (a .machine .sp ≤ 0x20000034) × (drop 13 (a .words) ≡ 99 ∷ [])
+  unfolding five data-words lent-words
+  five-left = (o .kept .sp-low, o .kept .sp-high, o .kept .untouched)
+
+-- ── what calls count, on code that faults: no image does, so no clause of the statement says it ──
+
+-- what a list of calls counts from a fresh machine without data
+abbrev counts : List ℕ → List Call → List ℕ
+counts code ks = map (λ c. c .count) (calls code ks [] (freshOf 0 0))
+
+-- `MOVI r0,5`, then no code: a step that completes counts 1, one that faults 0; a run counts the first alone
+fault-counts : counts (0x05 ∷ 0x20 ∷ []) (step ∷ step ∷ run 5 ∷ []) ≡ 1 ∷ 0 ∷ 0 ∷ []
+unfolding calls tried freshOf refusalOf stepOf onceOf fetchOf withSecond decodeOf find table executeOf result takes next runOf runFrom
+fault-counts = refl
+
+fault-counts-run : counts (0x05 ∷ 0x20 ∷ []) (run 0 ∷ run 5 ∷ []) ≡ 0 ∷ 1 ∷ []
+unfolding calls tried freshOf refusalOf stepOf onceOf fetchOf withSecond decodeOf find table executeOf result takes next runOf runFrom
+fault-counts-run = refl
+
+-- the same before an SVC, which counts, each time that it is met
+svc-counts : counts (0x05 ∷ 0x20 ∷ 0x00 ∷ 0xDF ∷ []) (run 5 ∷ step ∷ run 5 ∷ []) ≡ 2 ∷ 1 ∷ 1 ∷ []
+unfolding calls tried freshOf refusalOf stepOf onceOf fetchOf withSecond decodeOf find table executeOf result takes next runOf runFrom
+svc-counts = refl
 
 -- var i; array v[1]; while i < 2 do { v[i] := i; i := i + 1 }, from i = 0: one store, then a bad subscript
 counter : Variable

@@ -1,6 +1,6 @@
 // The instructions of the subset, and their halfwords.
 ghost use mathlib.Core.Path.{_≡_};
-ghost use Prim.Native.Nat.{_+_, _*_, _≤_, _<_};
+ghost use Prim.Native.Nat.{_+_, _*_, _/_, _%_, _≤_, _<_};
 ghost use Rattle.thumb.specs.Code as spec;
 ghost use Rattle.thumb.specs.Code.{form, encodeOf, decodeOf, find, table};
 
@@ -223,215 +223,184 @@ fn widen(half: u32, f: u32) -> u32
     f + (0xFFFF_FFFF - 2 * half + 1)
 }
 
-// The shifts, ADDR, SUBR, MOVI, ADDI, SUBI: 0000 to 3FFF.
-fn low(h: u16) -> Decoded
-    requires { ⌜ h < 0x4000 ⌝ }
-    ensures { λ r. ⌜ r ≡ find table h ⌝ }
+// The fields of a halfword, by the bits that they stand in: each arm of the decoder works out its own.
+fn bits0to2(h: u16) -> u8
+    ensures { λ r. ⌜ r ≡ h % 8 ⌝ }
 {
-    let d = (h % 8) as u8;
-    let l = (h / 8 % 8) as u8;
-    let n = (h / 64 % 32) as u8;
-    let r = (h / 64 % 8) as u8;
-    let u = (h % 256) as u8;
-    let e = (h / 256 % 8) as u8;
-    let m = swap32(n);
-    if h < 0x0800 {
-        return Decoded::Known(Instr::Shli(n, l, d));
-    }
-    if h < 0x1000 {
-        return Decoded::Known(Instr::Shri(m, l, d));
-    }
-    if h < 0x1800 {
-        return Decoded::Known(Instr::Ashri(m, l, d));
-    }
-    if h < 0x1A00 {
-        return Decoded::Known(Instr::Addr(r, l, d));
-    }
-    if h < 0x1C00 {
-        return Decoded::Known(Instr::Subr(r, l, d));
-    }
-    if h < 0x2000 {
-        return Decoded::Unknown;
-    }
-    if h < 0x2800 {
-        return Decoded::Known(Instr::Movi(e, u));
-    }
-    if h < 0x3000 {
-        return Decoded::Unknown;
-    }
-    if h < 0x3800 {
-        return Decoded::Known(Instr::Addi(e, u));
-    }
-    Decoded::Known(Instr::Subi(e, u))
+    (h % 8) as u8
 }
 
-// ANDR to MVNR: 4000 to 47FF.
+fn bits3to5(h: u16) -> u8
+    ensures { λ r. ⌜ r ≡ h / 8 % 8 ⌝ }
+{
+    (h / 8 % 8) as u8
+}
+
+fn bits6to8(h: u16) -> u8
+    ensures { λ r. ⌜ r ≡ h / 64 % 8 ⌝ }
+{
+    (h / 64 % 8) as u8
+}
+
+fn bits6to10(h: u16) -> u8
+    ensures { λ r. ⌜ r ≡ h / 64 % 32 ⌝ }
+{
+    (h / 64 % 32) as u8
+}
+
+fn bits8to10(h: u16) -> u8
+    ensures { λ r. ⌜ r ≡ h / 256 % 8 ⌝ }
+{
+    (h / 256 % 8) as u8
+}
+
+fn bits0to6(h: u16) -> u8
+    ensures { λ r. ⌜ r ≡ h % 128 ⌝ }
+{
+    (h % 128) as u8
+}
+
+fn bits0to7(h: u16) -> u8
+    ensures { λ r. ⌜ r ≡ h % 256 ⌝ }
+{
+    (h % 256) as u8
+}
+
+// ADDR, SUBR.
+fn arithmetic(h: u16) -> Decoded
+    requires { ⌜ h / 2048 ≡ 3 ⌝ }
+    ensures { λ r. ⌜ r ≡ find table h ⌝ }
+{
+    match h / 512 {
+        0b0001100 => Decoded::Known(Instr::Addr(bits6to8(h), bits3to5(h), bits0to2(h))),
+        0b0001101 => Decoded::Known(Instr::Subr(bits6to8(h), bits3to5(h), bits0to2(h))),
+        _ => Decoded::Unknown,
+    }
+}
+
+// ANDR to MVNR.
 fn logical(h: u16) -> Decoded
-    requires { ⌜ (0x4000 ≤ h) × (h < 0x4800) ⌝ }
+    requires { ⌜ h / 2048 ≡ 8 ⌝ }
     ensures { λ r. ⌜ r ≡ find table h ⌝ }
 {
-    let d = (h % 8) as u8;
-    let l = (h / 8 % 8) as u8;
-    if h < 0x4040 {
-        return Decoded::Known(Instr::Andr(l, d));
+    match h / 64 {
+        0b0100000000 => Decoded::Known(Instr::Andr(bits3to5(h), bits0to2(h))),
+        0b0100000001 => Decoded::Known(Instr::Xorr(bits3to5(h), bits0to2(h))),
+        0b0100000010 => Decoded::Known(Instr::Shl(bits3to5(h), bits0to2(h))),
+        0b0100000011 => Decoded::Known(Instr::Shr(bits3to5(h), bits0to2(h))),
+        0b0100001001 => Decoded::Known(Instr::Negr(bits3to5(h), bits0to2(h))),
+        0b0100001100 => Decoded::Known(Instr::Orr(bits3to5(h), bits0to2(h))),
+        0b0100001101 => Decoded::Known(Instr::Mul(bits3to5(h), bits0to2(h))),
+        0b0100001111 => Decoded::Known(Instr::Mvnr(bits3to5(h), bits0to2(h))),
+        _ => Decoded::Unknown,
     }
-    if h < 0x4080 {
-        return Decoded::Known(Instr::Xorr(l, d));
-    }
-    if h < 0x40C0 {
-        return Decoded::Known(Instr::Shl(l, d));
-    }
-    if h < 0x4100 {
-        return Decoded::Known(Instr::Shr(l, d));
-    }
-    if h < 0x4240 {
-        return Decoded::Unknown;
-    }
-    if h < 0x4280 {
-        return Decoded::Known(Instr::Negr(l, d));
-    }
-    if h < 0x4300 {
-        return Decoded::Unknown;
-    }
-    if h < 0x4340 {
-        return Decoded::Known(Instr::Orr(l, d));
-    }
-    if h < 0x4380 {
-        return Decoded::Known(Instr::Mul(l, d));
-    }
-    if h < 0x43C0 {
-        return Decoded::Unknown;
-    }
-    if h < 0x4400 {
-        return Decoded::Known(Instr::Mvnr(l, d));
-    }
-    Decoded::Unknown
 }
 
-// LDRPCI, STR, LDR, STRI, LDRI: 4800 to 8FFF.
-fn memory(h: u16) -> Decoded
-    requires { ⌜ (0x4800 ≤ h) × (h < 0x9000) ⌝ }
+// STR.
+fn stored(h: u16) -> Decoded
+    requires { ⌜ h / 2048 ≡ 10 ⌝ }
     ensures { λ r. ⌜ r ≡ find table h ⌝ }
 {
-    let d = (h % 8) as u8;
-    let l = (h / 8 % 8) as u8;
-    let n = (h / 64 % 32) as u8;
-    let r = (h / 64 % 8) as u8;
-    let u = (h % 256) as u8;
-    let e = (h / 256 % 8) as u8;
-    if h < 0x5000 {
-        return Decoded::Known(Instr::Ldrpci(e, u));
+    match h / 512 {
+        0b0101000 => Decoded::Known(Instr::Str(bits6to8(h), bits3to5(h), bits0to2(h))),
+        _ => Decoded::Unknown,
     }
-    if h < 0x5200 {
-        return Decoded::Known(Instr::Str(r, l, d));
-    }
-    if h < 0x5800 {
-        return Decoded::Unknown;
-    }
-    if h < 0x5A00 {
-        return Decoded::Known(Instr::Ldr(r, l, d));
-    }
-    if h < 0x6000 {
-        return Decoded::Unknown;
-    }
-    if h < 0x6800 {
-        return Decoded::Known(Instr::Stri(n, l, d));
-    }
-    if h < 0x7000 {
-        return Decoded::Known(Instr::Ldri(n, l, d));
-    }
-    Decoded::Unknown
 }
 
-// STRSPI, LDRSPI, ADDPCI, ADDSPI, INCSP, DECSP: 9000 to CFFF.
-fn stack(h: u16) -> Decoded
-    requires { ⌜ (0x9000 ≤ h) × (h < 0xD000) ⌝ }
+// LDR.
+fn loaded(h: u16) -> Decoded
+    requires { ⌜ h / 2048 ≡ 11 ⌝ }
     ensures { λ r. ⌜ r ≡ find table h ⌝ }
 {
-    let u = (h % 256) as u8;
-    let e = (h / 256 % 8) as u8;
-    let s = (h % 128) as u8;
-    if h < 0x9800 {
-        return Decoded::Known(Instr::Strspi(e, u));
+    match h / 512 {
+        0b0101100 => Decoded::Known(Instr::Ldr(bits6to8(h), bits3to5(h), bits0to2(h))),
+        _ => Decoded::Unknown,
     }
-    if h < 0xA000 {
-        return Decoded::Known(Instr::Ldrspi(e, u));
-    }
-    if h < 0xA800 {
-        return Decoded::Known(Instr::Addpci(e, u));
-    }
-    if h < 0xB000 {
-        return Decoded::Known(Instr::Addspi(e, u));
-    }
-    if h < 0xB080 {
-        return Decoded::Known(Instr::Incsp(s));
-    }
-    if h < 0xB100 {
-        return Decoded::Known(Instr::Decsp(s));
-    }
-    Decoded::Unknown
 }
 
-// The branches of one halfword, and SVC: D000 to EFFF.
-fn jump(h: u16) -> Decoded
-    requires { ⌜ (0xD000 ≤ h) × (h < 0xF000) ⌝ }
+// INCSP, DECSP.
+fn pointer(h: u16) -> Decoded
+    requires { ⌜ h / 2048 ≡ 22 ⌝ }
     ensures { λ r. ⌜ r ≡ find table h ⌝ }
 {
-    let u = (h % 256) as u8;
-    let k = widen(128, (h % 256) as u32);
-    let j = widen(1024, (h % 2048) as u32);
-    if h < 0xD100 {
-        return Decoded::Known(Instr::Beq(k));
+    match h / 128 {
+        0b101100000 => Decoded::Known(Instr::Incsp(bits0to6(h))),
+        0b101100001 => Decoded::Known(Instr::Decsp(bits0to6(h))),
+        _ => Decoded::Unknown,
     }
-    if h < 0xD200 {
-        return Decoded::Known(Instr::Bne(k));
+}
+
+// A distance of 8 bits.
+fn near(h: u16) -> u32
+    ensures { λ r. ⌜ r ≡ spec.widen 128 (h % 256) ⌝ }
+{
+    widen(128, (h % 256) as u32)
+}
+
+// BEQ, BNE.
+fn equality(h: u16) -> Decoded
+    requires { ⌜ h / 2048 ≡ 26 ⌝ }
+    ensures { λ r. ⌜ r ≡ find table h ⌝ }
+{
+    match h / 256 {
+        0b11010000 => Decoded::Known(Instr::Beq(near(h))),
+        0b11010001 => Decoded::Known(Instr::Bne(near(h))),
+        _ => Decoded::Unknown,
     }
-    if h < 0xDA00 {
+}
+
+// BGE, BLT, SVC.
+fn order(h: u16) -> Decoded
+    requires { ⌜ h / 2048 ≡ 27 ⌝ }
+    ensures { λ r. ⌜ r ≡ find table h ⌝ }
+{
+    match h / 256 {
+        0b11011010 => Decoded::Known(Instr::Bge(near(h))),
+        0b11011011 => Decoded::Known(Instr::Blt(near(h))),
+        0b11011111 => Decoded::Known(Instr::Svc(bits0to7(h))),
+        _ => Decoded::Unknown,
+    }
+}
+
+// BL.
+fn far(h: u16, second: u16) -> Decoded
+    requires { ⌜ h / 2048 ≡ 30 ⌝ }
+    ensures { λ r. ⌜ r ≡ decodeOf h second ⌝ }
+{
+    if second < 0xF800 {
         return Decoded::Unknown;
     }
-    if h < 0xDB00 {
-        return Decoded::Known(Instr::Bge(k));
-    }
-    if h < 0xDC00 {
-        return Decoded::Known(Instr::Blt(k));
-    }
-    if h < 0xDF00 {
-        return Decoded::Unknown;
-    }
-    if h < 0xE000 {
-        return Decoded::Known(Instr::Svc(u));
-    }
-    if h < 0xE800 {
-        return Decoded::Known(Instr::Bu(j));
-    }
-    Decoded::Unknown
+    let f = ((h - 0xF000) as u32) * 2048 + ((second - 0xF800) as u32);
+    Decoded::Known(Instr::Bl(widen(2097152, f)))
 }
 
 // The instruction of a halfword, and of the one after it for F000 to F7FF.
 pub fn decode(h: u16, second: u16) -> Decoded
     ensures { λ r. ⌜ r ≡ decodeOf h second ⌝ }
 {
-    if h < 0x4000 {
-        return low(h);
+    match h / 2048 {
+        0b00000 => Decoded::Known(Instr::Shli(bits6to10(h), bits3to5(h), bits0to2(h))),
+        0b00001 => Decoded::Known(Instr::Shri(swap32(bits6to10(h)), bits3to5(h), bits0to2(h))),
+        0b00010 => Decoded::Known(Instr::Ashri(swap32(bits6to10(h)), bits3to5(h), bits0to2(h))),
+        0b00011 => arithmetic(h),
+        0b00100 => Decoded::Known(Instr::Movi(bits8to10(h), bits0to7(h))),
+        0b00110 => Decoded::Known(Instr::Addi(bits8to10(h), bits0to7(h))),
+        0b00111 => Decoded::Known(Instr::Subi(bits8to10(h), bits0to7(h))),
+        0b01000 => logical(h),
+        0b01001 => Decoded::Known(Instr::Ldrpci(bits8to10(h), bits0to7(h))),
+        0b01010 => stored(h),
+        0b01011 => loaded(h),
+        0b01100 => Decoded::Known(Instr::Stri(bits6to10(h), bits3to5(h), bits0to2(h))),
+        0b01101 => Decoded::Known(Instr::Ldri(bits6to10(h), bits3to5(h), bits0to2(h))),
+        0b10010 => Decoded::Known(Instr::Strspi(bits8to10(h), bits0to7(h))),
+        0b10011 => Decoded::Known(Instr::Ldrspi(bits8to10(h), bits0to7(h))),
+        0b10100 => Decoded::Known(Instr::Addpci(bits8to10(h), bits0to7(h))),
+        0b10101 => Decoded::Known(Instr::Addspi(bits8to10(h), bits0to7(h))),
+        0b10110 => pointer(h),
+        0b11010 => equality(h),
+        0b11011 => order(h),
+        0b11100 => Decoded::Known(Instr::Bu(widen(1024, (h % 2048) as u32))),
+        0b11110 => far(h, second),
+        _ => Decoded::Unknown,
     }
-    if h < 0x4800 {
-        return logical(h);
-    }
-    if h < 0x9000 {
-        return memory(h);
-    }
-    if h < 0xD000 {
-        return stack(h);
-    }
-    if h < 0xF000 {
-        return jump(h);
-    }
-    if h >= 0xF800 {
-        return Decoded::Unknown;
-    }
-    if second < 0xF800 {
-        return Decoded::Unknown;
-    }
-    let f = ((h - 0xF000) as u32) * 2048 + ((second - 0xF800) as u32);
-    Decoded::Known(Instr::Bl(widen(2097152, f)))
 }

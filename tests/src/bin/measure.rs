@@ -3,12 +3,15 @@
 //!     measure source TOKENS KIND    writes a source of so many tokens
 //!     measure translate FILE        translates a file once, for a tool that counts instructions
 //!     measure stack FILE...         the stack that a translation of each of the files takes
-//!     measure speed                 the proved machine's speed and the second interpreter's
+//!     measure speed FILE...         how long the proved machine takes beside the plain interpreter
+//!     measure translation FILE...   how long a translation takes beside the second translator
 //!     measure bytes FILE...         tokens and image bytes of files
 
 use reference::generate::{program, render, Random};
 use std::time::Instant;
-use tests::{arm, needed_words, proved, stack, Translation, CODE_BYTES, TABLE_WORDS};
+use tests::{
+    arm, needed_words, plain, proved, second, stack, Translation, Translator, CODE_BYTES, TABLE_WORDS,
+};
 
 fn main() {
     let arguments: Vec<String> = std::env::args().skip(1).collect();
@@ -24,9 +27,10 @@ fn main() {
             let status = translate(&source).0.status;
             println!("| {} | {status} | {} |", name(file), stack::taken(&[source])[0]);
         }),
-        ["speed"] => speed(),
+        ["speed", ref files @ ..] => speed(files),
+        ["translation", ref files @ ..] => translation(files),
         ["bytes", ref files @ ..] => files.iter().for_each(|file| bytes(file)),
-        _ => panic!("measure source|translate|stack|speed|bytes"),
+        _ => panic!("measure source|translate|stack|speed|translation|bytes"),
     }
 }
 
@@ -82,35 +86,55 @@ fn source(tokens: usize, kind: &str) -> String {
 }
 
 /// A run of one of the machines: status, number and count.
-type Run<'a> = &'a dyn Fn(&mut arm::State, &mut [u32]) -> (u32, u32, u64);
+type Run = fn(&mut arm::State, &[u8], &mut [u32], u64) -> (u32, u32, u64);
 
-/// Instructions a second of `gutilamboy_run` and of the second interpreter, on the same images, the best of five.
-fn speed() {
-    const LIMIT: u64 = 2_000_000;
-    let programs = [
-        ("counting", "var n; while true do n := n + 1"),
-        ("array", "var i; array v[64]; while true do {v[i and 63] := v[(i + 1) and 63] + i; i := i + 1}"),
-        ("operators", "var x; var y; while true do {x := (x * 5) + (y >> 3); y := (x < y) xor (y - x)}"),
-    ];
-    println!("| program | proved machine, million a second | second interpreter | ratio |");
+/// How long `gutilamboy_run` takes beside the plain interpreter: ten million instructions of each program, the best of
+/// five runs by turns, memory cleared before each.
+fn speed(files: &[&str]) {
+    const LIMIT: u64 = 10_000_000;
+    println!("| program | proved machine, ns an instruction | plain interpreter | times as long |");
     println!("|---|---|---|---|");
-    for (name, source) in programs {
-        let (got, image) = translate(source.as_bytes());
-        assert_eq!(got.status, 0, "{source}");
-        let memory = vec![1; needed_words(got.data, got.depth)];
-        let best = |run: Run| {
-            let times = (0..5).map(|_| {
-                let (mut memory, (_, mut state)) =
-                    (memory.clone(), proved::start(&image, &memory, got.data, got.depth));
+    for file in files {
+        let (got, image) = translate(&read(file));
+        assert_eq!(got.status, 0, "{file}");
+        let mut best = [f64::MAX; 2];
+        for _ in 0..5 {
+            let mut ends = Vec::new();
+            for (run, best) in [proved::run as Run, plain::run].into_iter().zip(&mut best) {
+                let mut memory = vec![0; needed_words(got.data, got.depth)];
+                let (_, mut state) = proved::start(&image, &memory, got.data, got.depth);
                 let begun = Instant::now();
-                assert_eq!(run(&mut state, &mut memory), (0, 0, LIMIT));
-                begun.elapsed().as_secs_f64()
-            });
-            LIMIT as f64 / 1e6 / times.fold(f64::MAX, f64::min)
-        };
-        let proved = best(&|state, memory| proved::run(state, &image, memory, LIMIT));
-        let second = best(&|state, memory| arm::run(state, &image, memory, LIMIT));
-        println!("| {name} | {proved:.1} | {second:.1} | {:.2} |", proved / second);
+                let answer = run(&mut state, &image, &mut memory, LIMIT);
+                *best = best.min(begun.elapsed().as_secs_f64() * 1e9 / LIMIT as f64);
+                ends.push((answer, state, memory));
+            }
+            assert_eq!(ends[0], ends[1], "{file}");
+            assert_eq!(ends[0].0, (0, 0, LIMIT), "{file}");
+        }
+        let [proved, plain] = best;
+        println!("| {} | {proved:.2} | {plain:.2} | {:.2} |", name(file), proved / plain);
+    }
+}
+
+/// How long a translation takes beside the second translator's: the best of many calls by turns.
+fn translation(files: &[&str]) {
+    println!("| source | proved translation, µs | second translation | times as long |");
+    println!("|---|---|---|---|");
+    for file in files {
+        let source = read(file);
+        let mut best = [f64::MAX; 2];
+        for _ in 0..200 {
+            for (translate, best) in
+                [proved::translate as Translator, second::translate].into_iter().zip(&mut best)
+            {
+                let (mut table, mut code) = (vec![0; TABLE_WORDS], vec![0; CODE_BYTES]);
+                let begun = Instant::now();
+                translate(&source, &mut table, &mut code);
+                *best = best.min(begun.elapsed().as_secs_f64() * 1e6);
+            }
+        }
+        let [proved, second] = best;
+        println!("| {} | {proved:.1} | {second:.1} | {:.2} |", name(file), proved / second);
     }
 }
 

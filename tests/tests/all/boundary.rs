@@ -10,19 +10,15 @@ use tests::{needed_words, second, Translation, CODE_BYTES, TABLE_WORDS};
 /// The languages that the header is for, by compiler and option; the oldest of each.
 pub const LANGUAGES: [(&str, &str); 2] = [("cc", "-std=c99"), ("c++", "-std=c++98")];
 
-/// Runs a compiler; false, and a line that says so, where there is none.
-pub fn compiler(name: &str, words: &[impl AsRef<OsStr>]) -> bool {
-    let Ok(output) = Command::new(name).args(words).output() else {
-        print(&format!("no {name}: what needs it is left out"));
-        return false;
-    };
+/// Runs a compiler, which has to be there: a test that left out what needs it would show nothing.
+pub fn compiler(name: &str, words: &[impl AsRef<OsStr>]) {
+    let output =
+        Command::new(name).args(words).output().unwrap_or_else(|error| panic!("{name} is needed: {error}"));
     assert!(output.status.success(), "{}", String::from_utf8_lossy(&output.stderr));
-    true
 }
 
-/// What a program writes that is compiled with the header in a folder and linked with both archives; nothing where
-/// there is no such compiler.
-pub fn output_of(language: (&str, &str), header: &Path, source: &Path, words: &[&str]) -> Option<String> {
+/// What a program writes that is compiled with the header in a folder and linked with both archives.
+pub fn output_of(language: (&str, &str), header: &Path, source: &Path, words: &[&str]) -> String {
     let (name, standard) = language;
     let archives = repository().join("target/staticlib");
     let program = source.with_extension(&standard[5..]);
@@ -36,11 +32,10 @@ pub fn output_of(language: (&str, &str), header: &Path, source: &Path, words: &[
     options.extend(["-x", "none"].map(PathBuf::from));
     options.extend(["libgutilamboy.a", "libgutilamboy_codec.a"].map(|archive| archives.join(archive)));
     options.extend(["-o".into(), program.clone()]);
-    compiler(name, &options).then(|| {
-        let output = Command::new(&program).args(words).output().expect("the program runs");
-        assert!(output.status.success(), "{}", output.status);
-        String::from_utf8(output.stdout).expect("ASCII")
-    })
+    compiler(name, &options);
+    let output = Command::new(&program).args(words).output().expect("the program runs");
+    assert!(output.status.success(), "{}", output.status);
+    String::from_utf8(output.stdout).expect("ASCII")
 }
 
 /// A file of the repository, in a folder where its programs may be put.
@@ -57,9 +52,7 @@ fn the_example_in_c() {
         std::fs::read_to_string(repository().join("examples/c/pallet.stdout")).expect("what it writes");
     let (include, source) = (repository().join("include"), copied("examples/c/pallet.c"));
     for language in LANGUAGES {
-        if let Some(got) = output_of(language, &include, &source, &[]) {
-            assert_eq!(got, want);
-        }
+        assert_eq!(output_of(language, &include, &source, &[]), want, "{language:?}");
     }
     print("the example in C writes what it should");
 }
@@ -149,15 +142,12 @@ fn every_function_from_c() {
     ];
     instructions.into_iter().for_each(|instruction| want.encode(instruction));
     let (include, source) = (repository().join("include"), copied("tests/c/calls.c"));
-    let mut languages = Vec::new();
     for language in LANGUAGES {
-        if let Some(got) = output_of(language, &include, &source, &sources) {
-            assert_eq!(got, want.0, "{language:?}");
-            languages.push(language.1);
-        }
+        assert_eq!(output_of(language, &include, &source, &sources), want.0, "{language:?}");
     }
     print(&format!(
-        "header: all six functions called, {} lines alike; {languages:?}",
-        want.0.lines().count()
+        "header: all six functions called, {} lines alike; {:?}",
+        want.0.lines().count(),
+        LANGUAGES.map(|language| language.1)
     ));
 }

@@ -1,6 +1,6 @@
 //! The documents say what is there: docs/DEMANDS.md names files, definitions and functions that exist; README.md lists
 //! the files that the statements rest on, and no other; docs/DECISIONS.md lists the functions that have a `requires`;
-//! links lead to files.
+//! links lead to files; edits that must fail are named in one style.
 
 use crate::{print, repository};
 use std::collections::btree_map::Entry;
@@ -8,7 +8,7 @@ use std::collections::{BTreeMap, BTreeSet};
 use std::fs::{read_dir, read_to_string};
 use std::path::{Path, PathBuf};
 
-fn read(file: &str) -> String {
+pub fn read(file: &str) -> String {
     read_to_string(repository().join(file)).unwrap_or_else(|error| panic!("{file}: {error}"))
 }
 
@@ -19,7 +19,7 @@ fn section<'d>(document: &'d str, heading: &str) -> &'d str {
 }
 
 /// The text before each part in backquotes, and the part.
-fn quoted(text: &str) -> Vec<(&str, &str)> {
+pub fn quoted(text: &str) -> Vec<(&str, &str)> {
     let pieces: Vec<&str> = text.split('`').collect();
     pieces.chunks_exact(2).map(|pair| (pair[0], pair[1])).collect()
 }
@@ -36,7 +36,7 @@ fn stands_in(text: &str, name: &str) -> bool {
     })
 }
 
-fn no_complaints(complaints: &[String]) {
+pub fn no_complaints(complaints: &[String]) {
     assert!(complaints.is_empty(), "{}", complaints.join("\n"));
 }
 
@@ -52,7 +52,7 @@ fn file_of(part: &str) -> Option<String> {
 }
 
 /// All files below a folder.
-fn files_below(folder: &Path) -> Vec<PathBuf> {
+pub fn files_below(folder: &Path) -> Vec<PathBuf> {
     let entries = read_dir(folder).unwrap_or_else(|error| panic!("{}: {error}", folder.display()));
     let mut paths: Vec<PathBuf> = entries.map(|entry| entry.expect("a file").path()).collect();
     paths.sort();
@@ -175,6 +175,38 @@ fn proofs_in(text: &str) -> Vec<&str> {
     code.filter(|line| PROOFS.iter().any(|word| stands_in(line, word))).collect()
 }
 
+/// What is stated, not defined: signatures outside records whose result is an equation, a comparison or falsehood. A
+/// definition's result is a value or a type.
+fn laws_in(text: &str) -> Vec<&str> {
+    let code = text.lines().map(|line| line.split("--").next().expect("a beginning"));
+    let (mut record, mut pushed) = (None, false);
+    let mut laws = Vec::new();
+    for line in code.filter(|line| !line.trim().is_empty()) {
+        let words = line.trim_start();
+        let indentation = line.len() - words.len();
+        let declared = words.trim_start_matches("abbrev ").trim_start_matches("unfoldable ");
+        let declared = declared.trim_start_matches("pub ");
+        if record.is_some_and(|outside| indentation <= outside) {
+            record = None;
+        }
+        if declared.starts_with("record ") && words.trim_end().ends_with(" where") {
+            record = Some(indentation);
+        }
+        let signature = declared.split_once(" : ").filter(|(name, _)| !name.contains(char::is_whitespace));
+        let signature = signature.map(|(_, result)| result).or_else(|| words.strip_prefix('→'));
+        let result = signature.and_then(|result| result.rsplit('→').next()).unwrap_or("");
+        // where the signature goes on, what ended the line before was a premise
+        if pushed && words.starts_with('→') {
+            laws.pop();
+        }
+        pushed = record.is_none() && [" ≡ ", " ≤ ", " < ", "⊥"].iter().any(|sign| result.contains(sign));
+        if pushed {
+            laws.push(line);
+        }
+    }
+    laws
+}
+
 /// The table's rows: file and number of lines.
 fn believed(readme: &str) -> Vec<(String, usize)> {
     let rows = section(readme, "What a reader must believe").lines().filter(|line| line.starts_with("| ["));
@@ -220,10 +252,11 @@ fn what_a_reader_must_believe() {
     let rests_on = closure(&STATEMENTS);
     assert!(rests_on.len() > 30, "the statements were not read as they are written");
     no_complaints(&wrongly_believed(&readme, &rests_on));
-    let proofs = |(file, text): (&String, &String)| -> Vec<String> {
-        proofs_in(text).into_iter().map(|line| format!("{file} proves: {line}")).collect()
+    let more_than_defined = |(file, text): (&String, &String)| -> Vec<String> {
+        let lines = proofs_in(text).into_iter().chain(laws_in(text));
+        lines.map(|line| format!("{file} is not definitions alone: {line}")).collect()
     };
-    no_complaints(&rests_on.iter().flat_map(proofs).collect::<Vec<_>>());
+    no_complaints(&rests_on.iter().flat_map(more_than_defined).collect::<Vec<_>>());
     let lines: usize = rests_on.values().map(|text| text.lines().count()).sum();
     print(&format!("documents: the statements rest on {} files, {lines} lines, all listed", rests_on.len()));
 }
@@ -249,6 +282,10 @@ fn wrong_lists_are_noticed() {
     assert_eq!(proofs_in("a = refl"), ["a = refl"]);
     assert_eq!(proofs_in("a = b (omega arith) -- by arithmetic").len(), 1);
     assert!(proofs_in("a-refl = refls -- refl").is_empty());
+    let law = "pub a : (n : ℕ) → n ≡ n";
+    assert_eq!(laws_in(&format!("pub record R : Type 0 where\n  pub b : 1 ≡ 1\n{law}\na n = b n")), [law]);
+    assert_eq!(laws_in("a : (n : ℕ) → 1 ≤ n\n    → n < 1 → ⊥").len(), 1);
+    assert!(laws_in("pub P : ℕ → Type 0\nP n = (m : ℕ) × (n ≡ m)\nf : (n : ℕ) → n ≤ 1\n    → ℕ").is_empty());
     let code = "fn a()\n    requires { x }\n{\n}\npub fn b() {}\npub extern \"C\" fn c()\n    requires { x }\n{\n}\n";
     let told = functions("d", code).into_iter().map(|f| (f.name, f.public, f.exported, f.requires));
     let want = [("d::a", false, false, true), ("d::b", true, false, false), ("d::c", true, true, true)];
@@ -291,6 +328,18 @@ fn functions(of: &str, code: &str) -> Vec<Function> {
     found
 }
 
+/// The public calls below the exported ones: these have no premise either.
+const PUBLIC: [&str; 8] = [
+    "translate::translate",
+    "thumb::encode",
+    "thumb::decode",
+    "machine::start",
+    "machine::step",
+    "machine::run",
+    "text_report::report",
+    "text_listing::listing",
+];
+
 /// Whether what stands before `fn` makes it a function's first line.
 fn is_head(before: &str) -> bool {
     before.split_whitespace().all(|word| ["pub", "const", "extern", "\"C\""].contains(&word))
@@ -322,25 +371,46 @@ fn functions_with_a_requires() {
     wrong.extend(listed.difference(&public).map(|name| format!("{name} has no requires, or is not public")));
     let exported: Vec<&Function> = all.iter().filter(|function| function.exported).collect();
     wrong.extend(exported.iter().filter(|f| f.requires).map(|f| format!("{} is exported", f.name)));
+    for name in PUBLIC {
+        let call = all.iter().find(|function| function.name == name).unwrap_or_else(|| panic!("{name}"));
+        if call.requires || !call.public {
+            wrong.push(format!("{name} is a public call"));
+        }
+    }
     no_complaints(&wrong);
     assert_eq!(exported.len(), 6, "the calls of the header");
     print(&format!(
-        "documents: {} functions between the crates have a requires, all listed; {} private ones; none of the {} exported",
+        "documents: {} functions between the crates have a requires, all listed; {} private ones; none of the {} exported \
+         and {} public calls",
         public.len(),
         asks(false).count(),
-        exported.len()
+        exported.len(),
+        PUBLIC.len()
     ));
 }
 
 // ── links ──
 
+/// The pages for readers.
+const PAGES: [&str; 11] = [
+    "README.md",
+    "CHANGELOG.md",
+    "CONTRIBUTING.md",
+    "docs/BENCHMARKS.md",
+    "docs/DECISIONS.md",
+    "docs/DEMANDS.md",
+    "docs/LANGUAGE.md",
+    "docs/REFUSALS.md",
+    "docs/TRANSLATION.md",
+    "examples/README.md",
+    "tests/README.md",
+];
+
 #[test]
 fn links_lead_somewhere() {
     let mut count = 0;
     let mut broken = Vec::new();
-    let tops =
-        ["README.md", "docs/DEMANDS.md", "docs/DECISIONS.md", "docs/TRANSLATION.md", "docs/BENCHMARKS.md"];
-    for document in tops.into_iter().chain(["tests/README.md", "examples/README.md"]) {
+    for document in PAGES {
         let folder = repository().join(document).parent().expect("a folder").to_path_buf();
         let text = read(document);
         for link in text.split("](").skip(1).filter_map(|rest| rest.split(')').next()) {
@@ -352,4 +422,53 @@ fn links_lead_somewhere() {
     }
     no_complaints(&broken);
     print(&format!("documents: {count} links lead to files"));
+}
+
+// ── edits ──
+
+/// What is wrong with an edit that must fail: its name says the wrong program in lower case with underscores, and it
+/// replaces a text of `src/` or `specs/` by another one.
+fn wrong_edit(name: &str, text: &str) -> Option<String> {
+    let plain = |c: char| c.is_ascii_lowercase() || c.is_ascii_digit() || c == '_';
+    let line = |label: &str| text.lines().find_map(|line| line.strip_prefix(label));
+    let wrong = match (line("file: "), line("old: "), line("new: ")) {
+        _ if !name.chars().all(plain) => "its name is not lower case with underscores",
+        (Some(file), Some(old), Some(new)) => match file.split('/').next() {
+            _ if old == new => "it changes nothing",
+            Some("src" | "specs") => return None,
+            _ => "it is of neither src/ nor specs/",
+        },
+        _ => "it has no file, old or new text",
+    };
+    Some(format!("{name}: {wrong}"))
+}
+
+#[test]
+fn edits_are_in_one_style() {
+    let files = files_below(&repository().join("crates")).into_iter();
+    let edits = files.filter(|path| path.extension().is_some_and(|e| e == "edit"));
+    let edits: Vec<(String, String)> = edits
+        .map(|path| {
+            let name = path.file_stem().expect("a name").to_string_lossy().to_string();
+            (name, read_to_string(&path).expect("an edit"))
+        })
+        .collect();
+    no_complaints(&edits.iter().filter_map(|(name, text)| wrong_edit(name, text)).collect::<Vec<_>>());
+    assert!(edits.len() > 50, "the edits were not found");
+    print(&format!("documents: {} edits that must fail, named in one style", edits.len()));
+}
+
+#[test]
+fn wrong_edits_are_noticed() {
+    let good = "Why.\nfile: src/lib.rt\nold: a < b\nnew: a <= b\n";
+    assert_eq!(wrong_edit("depth_33", good), None);
+    for (name, old, new) in [
+        ("depth-33", "", ""),
+        ("Depth_33", "", ""),
+        ("depth_33", "file: src/lib.rt", "file: proofs/a/Proof.antt"),
+        ("depth_33", "a <= b", "a < b"),
+        ("depth_33", "new: ", ""),
+    ] {
+        assert!(wrong_edit(name, &good.replace(old, new)).is_some(), "{name} {new:?} for {old:?}");
+    }
 }

@@ -145,22 +145,23 @@ fn broken_off(beginning: &[u8]) -> Stdio {
     OwnedFd::from(theirs).into()
 }
 
-/// The library that makes writes fail, where there is a C compiler.
-fn faulty() -> Option<PathBuf> {
+/// The library that makes writes fail.
+fn faulty() -> PathBuf {
     let library = scratch("c").join("faulty.so");
     let source = repository().join("tests/c/faulty.c");
     let options = ["-O1", "-shared", "-fPIC", "-o"].map(PathBuf::from);
-    compiler("cc", &[&options[..], &[library.clone(), source]].concat()).then_some(library)
+    compiler("cc", &[&options[..], &[library.clone(), source]].concat());
+    library
 }
 
-/// A program that stands in for another, right or wrong in one way, where there is a C compiler.
-fn stub(folder: &Path, called: &Called, wrong: &str) -> Option<PathBuf> {
+/// A program that stands in for another, right or wrong in one way.
+fn stub(folder: &Path, called: &Called, wrong: &str) {
     let program = folder.join(called.name);
     let define = |name: &str, text: &str| PathBuf::from(format!("-D{name}={text}"));
     let output = format!("{:?}", String::from_utf8_lossy(&called.whole));
     let mut words = vec![define("NAME", &format!("{:?}", called.name)), define("OUTPUT", &output)];
-    words.extend([define("WRONG", wrong), "-o".into(), program.clone(), repository().join("tests/c/stub.c")]);
-    compiler("cc", &words).then_some(program)
+    words.extend([define("WRONG", wrong), "-o".into(), program, repository().join("tests/c/stub.c")]);
+    compiler("cc", &words);
 }
 
 /// Built programs, and the wrappers with them.
@@ -173,9 +174,7 @@ fn failures_are_told() {
         let program = Called::new(vec![repository().join("target/bin").join(name)], name, 0);
         program.failed_reads();
         program.failed_writes();
-        if let Some(faulty) = &faulty {
-            program.faulty_writes(faulty);
-        }
+        program.faulty_writes(&faulty);
         let wrapper = Called::new(vec![repository().join("bin").join(name)], name, 1);
         wrapper.failed_reads();
         wrapper.failed_writes();
@@ -186,12 +185,12 @@ fn failures_are_told() {
 /// The checks themselves: a program that tells of failures passes them, and wrong ones don't.
 #[test]
 fn wrong_tellers_are_noticed() {
-    let Some(faulty) = faulty() else { return };
+    let faulty = faulty();
     for (name, _) in PROGRAMS {
         let passes = |wrong: &str| {
             let folder = scratch(&format!("stub-{wrong}"));
             let called = Called::new(vec![folder.join(name)], name, 0);
-            stub(&folder, &called, wrong).expect("a C compiler");
+            stub(&folder, &called, wrong);
             let checks = || {
                 called.failed_reads();
                 called.failed_writes();
@@ -260,19 +259,14 @@ fn wrappers_tell() {
         let folder = scratch("a wrapper's folder");
         let wrapper = like_the_repository(&folder, name);
         let called = Called::new(vec![wrapper.clone()], name, 1);
-        if stub(&folder.join("target/bin"), &called, "RIGHT").is_some() {
-            for shell in shells() {
-                let called = Called::new(vec![shell, wrapper.clone()], name, 1);
-                called.succeeds("a source", &mut called.command());
-                called.failed_reads();
-                called.failed_writes();
-                let silent = called.by_shell("", "<&- 2>&-").output().expect("it starts");
-                assert_eq!(
-                    (silent.status.code(), silent.stdout.len()),
-                    (Some(1), 0),
-                    "closed standard error"
-                );
-            }
+        stub(&folder.join("target/bin"), &called, "RIGHT");
+        for shell in shells() {
+            let called = Called::new(vec![shell, wrapper.clone()], name, 1);
+            called.succeeds("a source", &mut called.command());
+            called.failed_reads();
+            called.failed_writes();
+            let silent = called.by_shell("", "<&- 2>&-").output().expect("it starts");
+            assert_eq!((silent.status.code(), silent.stdout.len()), (Some(1), 0), "closed standard error");
         }
         other_programs(&folder, &called);
         other_places(&folder, &called);

@@ -1,9 +1,9 @@
 //! The proved machine against the second one.
 
 use crate::{by_status, print};
+use reference::generate::Random;
 use tests::arm::{self, assemble, disassemble, pattern, Instr, Layout, Op, State, OPS};
-use tests::proved;
-use tests::random::Random;
+use tests::{plain, proved};
 
 const EDGES: [u8; 22] =
     [0, 1, 2, 6, 7, 8, 9, 15, 16, 30, 31, 32, 33, 63, 64, 126, 127, 128, 129, 200, 254, 255];
@@ -47,7 +47,7 @@ fn encodings(random: &mut Random) -> u64 {
         }
     }
     distances.extend(-3000..3000);
-    distances.extend((0..20_000).map(|_| random.word() as i32 >> random.below(16)));
+    distances.extend((0..20_000).map(|_| random.any_word() as i32 >> random.below(16)));
     for op in OPS {
         let zero = Instr { op, a: 0, b: 0, c: 0, k: 0 };
         match pattern(op).1 {
@@ -106,8 +106,8 @@ fn numbered_encodings(random: &mut Random) -> [u64; 3] {
     for number in 0..=255u8 {
         for (a, b) in EDGES.into_iter().flat_map(|a| EDGES.map(|b| (a, b))) {
             for _ in 0..12 {
-                let c = random.of(&EDGES);
-                let k = random.word() as i32 >> random.below(32);
+                let c = *random.pick(&EDGES);
+                let k = random.any_word() as i32 >> random.below(32);
                 let got = proved::encode(number, a, b, c, k);
                 let Some(&op) = OPS.get(number as usize) else {
                     same("encode number", (number, a, b, c, k), got, OUT_OF_RANGE);
@@ -129,7 +129,7 @@ fn decodings(random: &mut Random) -> u64 {
             count += decoding(h, k);
         }
         for _ in 0..12 {
-            count += decoding(h, random.word() as u16);
+            count += decoding(h, random.any_word() as u16);
         }
     }
     // every BL, and each first half with every second one around the edge
@@ -148,29 +148,29 @@ fn word(random: &mut Random, code: usize, memory: usize) -> u32 {
         0 => small,
         1 => small.wrapping_neg(),
         2 => 0x8000_0000u32.wrapping_add(small).wrapping_sub(6),
-        3 => random.below(code as u64 + 8) as u32,
-        4..=6 => 0x2000_0000 + 4 * random.below(memory.min(64) as u64 + 2) as u32,
-        7 => 0x2000_0000u32.wrapping_add(random.below(4 * memory.min(64) as u64 + 24) as u32).wrapping_sub(8),
+        3 => random.below(code + 8) as u32,
+        4..=6 => 0x2000_0000 + 4 * random.below(memory.min(64) + 2) as u32,
+        7 => 0x2000_0000u32.wrapping_add(random.below(4 * memory.min(64) + 24) as u32).wrapping_sub(8),
         8 => 1 << random.below(32),
         9 => 256 * random.below(300) as u32 + small,
         10 => (0x2000_0000 + 4 * memory as u32).wrapping_sub(4 * small),
-        _ => random.word(),
+        _ => random.any_word(),
     }
 }
 
 fn state(random: &mut Random, code: usize, memory: usize) -> State {
     let pc = match random.below(24) {
-        0 => random.word(),
+        0 => random.any_word(),
         1 => (code as u32).wrapping_sub(random.below(6) as u32),
-        2 => random.of(&[u32::MAX, u32::MAX - 1, u32::MAX - 2, u32::MAX - 3, 0x2000_0000, 0x1fff_fffe]),
-        3 => random.below(code as u64 + 4) as u32,
-        _ => random.below(code as u64 / 2 + 1) as u32 * 2,
+        2 => *random.pick(&[u32::MAX, u32::MAX - 1, u32::MAX - 2, u32::MAX - 3, 0x2000_0000, 0x1fff_fffe]),
+        3 => random.below(code + 4) as u32,
+        _ => random.below(code / 2 + 1) as u32 * 2,
     };
     let mut r = [0; 8];
     for x in &mut r {
         *x = word(random, code, memory);
     }
-    State { r, sp: word(random, code, memory), lr: random.word(), pc, rs: word(random, code, memory) }
+    State { r, sp: word(random, code, memory), lr: random.any_word(), pc, rs: word(random, code, memory) }
 }
 
 /// Code of random halfwords, of instructions of each kind alike, or of bytes.
@@ -178,11 +178,11 @@ fn code(random: &mut Random, length: usize, kind: u64) -> Vec<u8> {
     let mut bytes = Vec::with_capacity(length + 4);
     while bytes.len() < length {
         let halves = match kind {
-            0 => vec![random.word() as u16],
+            0 => vec![random.any_word() as u16],
             _ => {
-                let op = random.of(&OPS);
-                let reach = random.of(&[3, 8, 16, 40]);
-                let bytes = random.of(&[4, 16, 256]);
+                let op = *random.pick(&OPS);
+                let reach = *random.pick(&[3, 8, 16, 40]);
+                let bytes = *random.pick(&[4, 16, 256]);
                 let i = Instr {
                     op,
                     a: random.below(if matches!(pattern(op).1, Layout::Imm5 | Layout::Count) {
@@ -206,7 +206,9 @@ fn code(random: &mut Random, length: usize, kind: u64) -> Vec<u8> {
 }
 
 fn memory(random: &mut Random, length: usize) -> Vec<u32> {
-    (0..length).map(|_| if random.below(4) == 0 { random.word() } else { word(random, 40, length) }).collect()
+    (0..length)
+        .map(|_| if random.below(4) == 0 { random.any_word() } else { word(random, 40, length) })
+        .collect()
 }
 
 /// Answers seen, by status: what the comparison reached.
@@ -249,6 +251,10 @@ fn one_run(seen: &mut Seen, s: &State, code: &[u8], memory: &[u32], limit: u64) 
     // a run that ends before its limit ends alike under any larger one
     let asked = if want.0 != 0 && want.2 < limit { u64::MAX } else { limit };
     let got = proved::run(&mut theirs, code, &mut their_memory, asked);
+    // the yardstick of the benchmarks, too
+    let (mut plain, mut plain_memory) = (s.clone(), memory.to_vec());
+    let measured = plain::run(&mut plain, code, &mut plain_memory, limit);
+    same("plain run", (s, limit), (measured, plain, plain_memory), (want, mine.clone(), my_memory.clone()));
     same("run", (s, limit), (got, theirs, their_memory), (want, mine, my_memory));
     seen.runs[want.0 as usize] += 1;
     seen.run_instructions += want.2;
@@ -263,11 +269,11 @@ fn one_start(seen: &mut Seen, code: &[u8], memory: &[u32], d: u32, n: u32) {
 fn steps(random: &mut Random, seen: &mut Seen) {
     for round in 0..60_000u64 {
         let length = match round % 16 {
-            0 => random.of(&[0, 1, 2, 3, 4, 5]),
-            1 => 7 + 2 * random.below(20) as usize,
-            _ => 8 + 2 * random.below(28) as usize,
+            0 => *random.pick(&[0, 1, 2, 3, 4, 5]),
+            1 => 7 + 2 * random.below(20),
+            _ => 8 + 2 * random.below(28),
         };
-        let words = if round % 12 == 0 { random.below(3) as usize } else { random.below(40) as usize };
+        let words = if round % 12 == 0 { random.below(3) } else { random.below(40) };
         let code = code(random, length, round % 5);
         let memory = memory(random, words);
         for _ in 0..24 {
@@ -306,11 +312,11 @@ fn steps(random: &mut Random, seen: &mut Seen) {
 
 fn runs(random: &mut Random, seen: &mut Seen) {
     for round in 0..250_000u64 {
-        let length = if round % 20 == 0 { random.below(6) as usize } else { 4 + random.below(60) as usize };
-        let words = random.below(40) as usize;
+        let length = if round % 20 == 0 { random.below(6) } else { 4 + random.below(60) };
+        let words = random.below(40);
         let code = code(random, length, round % 7);
         let memory = memory(random, words);
-        let limit = random.of(&[0, 1, 2, 3, 10, 30, 100, 400]);
+        let limit = *random.pick(&[0, 1, 2, 3, 10, 30, 100, 400]);
         let s = state(random, length, words);
         one_run(seen, &s, &code, &memory, limit);
     }
@@ -329,10 +335,10 @@ fn runs(random: &mut Random, seen: &mut Seen) {
 
 fn starts(random: &mut Random, seen: &mut Seen) {
     for _ in 0..20_000 {
-        let d = random.of(&[0, 1, 2, 100, 8191, 8192, 8193, u32::MAX]).min(random.word());
-        let n = random.of(&[0, 1, 5, 31, 32, 33, u32::MAX]).min(random.word());
+        let d = (*random.pick(&[0, 1, 2, 100, 8191, 8192, 8193, u32::MAX])).min(random.any_word());
+        let n = (*random.pick(&[0, 1, 5, 31, 32, 33, u32::MAX])).min(random.any_word());
         let needed = (d as usize).min(9000) + 2 * (n as usize).min(40) + 8;
-        let words = (needed + random.below(4) as usize).saturating_sub(2);
+        let words = (needed + random.below(4)).saturating_sub(2);
         let memory = vec![7; words];
         one_start(seen, &[0; 3], &memory, d, n);
     }
@@ -340,17 +346,17 @@ fn starts(random: &mut Random, seen: &mut Seen) {
 
 #[test]
 fn every_decoding() {
-    print(&format!("decode: {} pairs of halfwords", decodings(&mut Random(1))));
+    print(&format!("decode: {} pairs of halfwords", decodings(&mut Random::new(1))));
 }
 
 #[test]
 fn every_encoding() {
-    print(&format!("encode: {} instructions", encodings(&mut Random(2))));
+    print(&format!("encode: {} instructions", encodings(&mut Random::new(2))));
 }
 
 #[test]
 fn every_number() {
-    let [encoded, out_of_range, no_instruction] = numbered_encodings(&mut Random(6));
+    let [encoded, out_of_range, no_instruction] = numbered_encodings(&mut Random::new(6));
     assert!(encoded > 10_000 && out_of_range > 10_000 && no_instruction > 1_000_000);
     print(&format!(
         "encode by number: {encoded} encoded, {out_of_range} out of range, {no_instruction} of numbers 34 to 255"
@@ -360,9 +366,9 @@ fn every_number() {
 #[test]
 fn starts_steps_and_runs() {
     let mut seen = Seen::none();
-    starts(&mut Random(3), &mut seen);
-    steps(&mut Random(4), &mut seen);
-    runs(&mut Random(5), &mut seen);
+    starts(&mut Random::new(3), &mut seen);
+    steps(&mut Random::new(4), &mut seen);
+    runs(&mut Random::new(5), &mut seen);
     let total = |counts: &[u64]| counts.iter().sum::<u64>();
     print(&format!("start: {} calls (by status {})", total(&seen.starts), by_status(&seen.starts)));
     print(&format!("step: {} calls (by status {})", total(&seen.steps), by_status(&seen.steps)));

@@ -6,13 +6,19 @@ use std::path::{Path, PathBuf};
 mod boundary;
 mod cases;
 mod documents;
+mod ebnf;
 mod failures;
 mod front;
 mod header;
+mod language;
 mod machine;
+mod pages;
 mod programs;
+mod refusals;
 mod runs;
+mod speed;
 mod stack;
+mod unused;
 
 fn repository() -> PathBuf {
     Path::new(env!("CARGO_MANIFEST_DIR")).parent().expect("the repository").to_path_buf()

@@ -15,14 +15,14 @@ pub analyse-spec : {M : Type 1} → statement M
 analyse-spec =
     tie.close
     (tie.spec
-    (search needs) (search needs)
+    (search needs) (λ c. search needs)
     (λ c. let tokens = c .before .before .before .tokens in let a = c .before .before .before .before .before .before .before .before .args in
     omega (
       arith,
       small-place (a .source .now) (a .table-words) (a .code-bytes) (c .before .s .given .0 .0) (c .before .s .given .0 .1 .0)
           (tokens .ensures .0 ∙ ap (λ (r : Scanned). answer r (tokens .last .1 .0) (tokens .last .1 .1 .0) (tokens .last .1 .1 .1 .0)) (c .before .s .given .1)),
     ))
-    (search needs)
+    (λ c. search needs)
     (λ c. let f = subst Few (c .before .s2 .given .1) (c .before .before .before .tokens .ensures .1) in omega (arith, f))
     (λ c. let tokens = c .before .before .before .before .tokens in let a = c .before .before .before .before .before .before .before .before .before .args in
     short-table (a .source .now) (a .table-words) (a .code-bytes) (tokens .last .1 .0) (tokens .last .1 .1 .0) (tokens .last .1 .1 .1 .0) (c .before .before .s2 .given .0 .0)

@@ -79,7 +79,7 @@ bind-spec =
     ))
     (λ c κs. let c8 = c .before .before .before .before .before .before .before .before in let c9 = c8 .before in let start = c9 .before .before .before .before .before in let v = c9 .loop .inv in
     (omega (arith, start .pre, c8 .loop-test .taken), (v .0, (v .1, v .2))))
-    (search needs)
+    (λ c. search needs)
     (λ c.
     let c10 = c .before .before .before .before .before .before .before .before .before .before in let c11 = c10 .before in let c12 = c11 .before in let c13 = c12 .before in
     let start = c13 .before .before .before .before .before in let a = start .args in let l = c13 .loop in let v = l .inv in let d = c .before .before .before .declare in
@@ -93,7 +93,7 @@ bind-spec =
           (subst (λ (n : ℕ). l .i < n) st (c12 .loop-test .taken)) (λ e. c10 .if1 .left (c11 .kind-at .ensures ∙ e)) _
           (subst (λ (x : Progress). Enters (a .source .now) (a .kinds .now) (a .places .now) (a .values .now) s (l .i) old new (l .table) t x) (c .before .r .given .1) (e .2)),
     ))
-    (search needs) (search needs)
+    (λ c. search needs) (search needs)
     (λ c. let c12 = c .before .before .before .before .before .before .before .before .before .before .before .before in let c13 = c12 .before in
     let start = c13 .before .before .before .before .before .before in let w = width-small (c12 .kind-at .result) in
     omega (arith, start .pre, c13 .loop-test .taken, c .width .ensures, w .1))

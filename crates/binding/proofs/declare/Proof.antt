@@ -74,7 +74,7 @@ declare-spec =
     (search needs)
     (λ c. let c14 = c .before .before .before .before .before .before .before .before .before .before .before .before .before .before in
     let start = c14 .before .before .before .before .before .before .before .before .before .before .before .before .before .before .before in omega (arith, start .pre))
-    (search needs) (search needs) (search needs) (search needs)
+    (search needs) (search needs) (λ c. search needs) (λ c. search needs)
     (λ c. let c14 = c .before .before .before .before .before .before .before .before .before .before .before .before .before .before in
     let c28 = c14 .before .before .before .before .before .before .before .before .before .before .before .before .before .before in
     let start = c28 .before .before .before .before .before .before .before .before .before .before .before in omega (arith, start .pre))

@@ -28,10 +28,11 @@ read-spec =
     (tie.spec
     Inv-loop
     μ-loop
-    (search needs) (search needs) (search needs) (search needs) (search needs) (search needs) (search needs) (search needs) (search needs) (search needs)
+    (λ c. search needs) (λ c. search needs) (λ c. search needs) (λ c. search needs) (search needs) (λ c. search needs) (λ c. search needs) (λ c. search needs) (λ c. search needs)
+    (λ c. search needs)
     (λ c. counts _ _ (omega arith))
     add-done
-    (search needs)
+    (λ c. search needs)
     loop-again
-    (search needs)
+    (λ c. search needs)
     (λ c. counts _ _ (omega arith)))

@@ -52,6 +52,6 @@ pub line-spec : {M : Type 1} → statement M
 line-spec =
     tie.close
     (tie.spec
-    (search needs) (search needs) (search needs) (search needs) (search needs) (search needs) (search needs) (search needs) (search needs)
+    (search needs) (search needs) (λ c. search needs) (search needs) (λ c. search needs) (search needs) (search needs) (search needs) (search needs)
     returns
     returns-2)

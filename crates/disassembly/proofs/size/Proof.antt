@@ -31,7 +31,7 @@ pub size-spec : {M : Type 1} → statement M
 size-spec =
     tie.close
     (tie.spec
-    (search needs) (search needs) (search needs)
+    (search needs) (λ c. search needs) (λ c. search needs)
     returns
     returns-2
     returns-3)

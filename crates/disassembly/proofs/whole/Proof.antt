@@ -32,7 +32,7 @@ pub whole-spec : {M : Type 1} → statement M
 whole-spec =
     tie.close
     (tie.spec
-    (search needs) (search needs)
+    (λ c. search needs) (search needs)
     returns
     (search needs) (search needs)
     returns-2)

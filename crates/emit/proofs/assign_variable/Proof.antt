@@ -11,12 +11,12 @@ assign-variable-spec =
     tie.close
     (tie.spec
     (λ c κs. unfold assign-variable in first _ (c .before .before .pre .1))
-    (search needs)
+    (λ c. search needs)
     (λ c κs. unfold assign-variable in first _ (rest (c .before .before .before .put-two .ensures) (c .before .before .before .before .before .before .pre .1)))
     (λ c κs. unfold assign-variable in let put-two = c .before .before .before .before .before .before .before .put-two in
     let start = c .before .before .before .before .before .before .before .before .before .before in
     (rest (c .before .before .before .constant .ensures) (rest (put-two .ensures) (start .pre .1))))
-    (search needs)
+    (λ c. search needs)
     (λ c. unfold assign-variable in let constant = c .before .before .before .before .before .before .constant in
     let put-two = c .before .before .before .before .before .before .before .before .before .before .put-two in
     then (put-two .ensures) (then (constant .ensures) (c .before .before .put .ensures))))

@@ -15,7 +15,7 @@ check-subscript-spec =
     (λ c κs. unfold check-subscript in let put-four = c .before .before .before .before .before .before .before .put-four in
     let start = c .before .before .before .before .before .before .before .before .before .before in
     (rest (c .before .before .before .constant .ensures) (rest (put-four .ensures) (start .pre))))
-    (search needs)
+    (λ c. search needs)
     (λ c. unfold check-subscript in let constant = c .before .before .before .before .before .before .constant in
     let put-four = c .before .before .before .before .before .before .before .before .before .before .put-four in
     then (put-four .ensures) (then (constant .ensures) (c .before .before .put-four2 .ensures))))

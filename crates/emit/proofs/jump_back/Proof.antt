@@ -8,7 +8,7 @@ use Rattle.emit.proofs.jump_back.Tie as tie
 pub jump-back-spec : {M : Type 1} → statement M
 jump-back-spec =
     tie.close (tie.spec
-    (search needs) (search needs) (search needs) (search needs)
+    (λ c. search needs) (λ c. search needs) (λ c. search needs) (λ c. search needs)
     (λ c κs. unfold jump-back in c .before .before .pre .1)
-    (search needs)
+    (λ c. search needs)
     (λ c. unfold jump-back in c .before .before .put .ensures))

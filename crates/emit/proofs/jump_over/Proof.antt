@@ -10,8 +10,8 @@ use Rattle.emit.proofs.jump_over.Tie as tie
 
 pub jump-over-spec : {M : Type 1} → statement M
 jump-over-spec = tie.close (tie.spec
-    (search needs) (search needs) (search needs)
+    (λ c. search needs) (λ c. search needs) (λ c. search needs)
     (λ c κs. unfold jump-over in let s = jump-size (c .before .before .args .to - (c .before .before .args .at + 4)) (omega (arith, c .before .before .pre)) in
     record { fits = omega (arith, c .before .before .pre); near = omega (arith, c .before .before .pre) })
-    (search needs)
+    (λ c. search needs)
     (λ c. unfold jump-over in c .before .before .put .ensures))

@@ -14,7 +14,7 @@ push-constant-spec =
     (λ c κs. unfold push-constant in let put = c .before .before .before .before .before .before .before .put in
     let start = c .before .before .before .before .before .before .before .before .before .before in
     (rest (c .before .before .before .constant .ensures) (rest (put .ensures) (start .pre))))
-    (search needs)
+    (λ c. search needs)
     (λ c. unfold push-constant in let constant = c .before .before .before .before .before .before .constant in
     let put = c .before .before .before .before .before .before .before .before .before .before .put in
     then (put .ensures) (then (constant .ensures) (c .before .before .put2 .ensures))))

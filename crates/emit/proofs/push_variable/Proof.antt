@@ -11,12 +11,12 @@ push-variable-spec =
     tie.close
     (tie.spec
     (λ c κs. unfold push-variable in first _ (c .before .before .pre .1))
-    (search needs)
+    (λ c. search needs)
     (λ c κs. unfold push-variable in first _ (rest (c .before .before .before .put .ensures) (c .before .before .before .before .before .before .pre .1)))
     (λ c κs. unfold push-variable in let put = c .before .before .before .before .before .before .before .put in
     let start = c .before .before .before .before .before .before .before .before .before .before in
     (rest (c .before .before .before .constant .ensures) (rest (put .ensures) (start .pre .1))))
-    (search needs)
+    (λ c. search needs)
     (λ c. unfold push-variable in let constant = c .before .before .before .before .before .before .constant in
     let put = c .before .before .before .before .before .before .before .before .before .before .put in
     then (put .ensures) (then (constant .ensures) (c .before .before .put-two .ensures))))

@@ -11,12 +11,12 @@ store-element-spec =
     tie.close
     (tie.spec
     (λ c κs. unfold store-element in first _ (c .before .before .pre .1))
-    (search needs)
+    (λ c. search needs)
     (λ c κs. unfold store-element in first _ (rest (c .before .before .before .put-four .ensures) (c .before .before .before .before .before .before .pre .1)))
     (λ c κs. unfold store-element in let put-four = c .before .before .before .before .before .before .before .put-four in
     let start = c .before .before .before .before .before .before .before .before .before .before in
     (rest (c .before .before .before .constant .ensures) (rest (put-four .ensures) (start .pre .1))))
-    (search needs)
+    (λ c. search needs)
     (λ c. unfold store-element in let constant = c .before .before .before .before .before .before .constant in
     let put-four = c .before .before .before .before .before .before .before .before .before .before .put-four in
     then (put-four .ensures) (then (constant .ensures) (c .before .before .put-two .ensures))))

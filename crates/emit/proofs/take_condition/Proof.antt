@@ -8,5 +8,5 @@ use Rattle.emit.proofs.take_condition.Tie as tie
 pub take-condition-spec : {M : Type 1} → statement M
 take-condition-spec = tie.close (tie.spec
     (λ c κs. unfold take-condition in (c .before .before .pre))
-    (search needs)
+    (λ c. search needs)
     (λ c. unfold take-condition in c .before .before .put-four .ensures))

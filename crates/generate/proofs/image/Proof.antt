@@ -8,8 +8,8 @@ use Rattle.generate.proofs.image.Tie as tie
 
 pub image-spec : {M : Type 1} → statement M
 image-spec = tie.close (tie.spec
-    (search needs)
+    (λ c. search needs)
     (λ c κs. unfold image-code in (c .before .before .before .pre .1 .0, first _ (c .before .before .before .pre .1 .1)))
     (λ c κs. unfold image-code in rest (c .before .before .before .process .ensures) (c .before .before .before .before .before .before .before .pre .1 .1))
-    (search needs)
+    (λ c. search needs)
     (λ c. unfold image-code in then (c .before .before .before .before .before .before .process .ensures) (c .before .before .put .ensures)))

@@ -17,4 +17,4 @@ returns-2 c =
 
 pub gutilamboy-encode-spec : {M : Type 1} → statement M
 gutilamboy-encode-spec =
-    tie.close (tie.spec (search needs) (search needs) (search needs) returns (search needs) (search needs) (search needs) returns-2)
+    tie.close (tie.spec (search needs) (λ c. search needs) (λ c. search needs) returns (search needs) (λ c. search needs) (λ c. search needs) returns-2)

@@ -14,19 +14,19 @@ put-spec =
     (tie.spec
     (search needs)
     (λ c. wrote-none (c .before .before .before .args .i) (c .before .encode .result) (c .before .encode .ensures) (c .if1 .taken))
-    (search needs)
+    (λ c. search needs)
     (λ c. omega (arith, room-some (c .before .before .before .args .i) (c .before .encode .result) (c .before .encode .ensures) (c .if1 .left) (c .before .before .before .pre)))
-    (search needs) (search needs)
+    (λ c. search needs) (λ c. search needs)
     (λ c. simp length-set (omega (arith, room-some (c .before .before .before .args .i) (c .before .encode .result) (c .before .encode .ensures) (c .if1 .left) (c .before .before .before .pre))))
-    (search needs) (search needs)
+    (λ c. search needs) (λ c. search needs)
     (λ c. wrote-one (c .before .before .before .before .args .i) (c .before .before .encode .result) (c .before .before .encode .ensures) (c .if2 .taken) (simp towards-suc))
-    (search needs) (search needs)
+    (λ c. search needs) (λ c. search needs)
     (λ c. let start = c .before .before .before .before in
     simp length-set
     (omega (arith, room-two (start .args .i) (c .before .before .encode .result) (c .before .before .encode .ensures) (c .before .if1 .left) (c .if2 .left) (start .pre))))
-    (search needs) (search needs)
+    (λ c. search needs) (λ c. search needs)
     (λ c. let start = c .before .before .before .before in
     simp length-set
     (omega (arith, room-two (start .args .i) (c .before .before .encode .result) (c .before .before .encode .ensures) (c .before .if1 .left) (c .if2 .left) (start .pre))))
-    (search needs) (search needs)
+    (λ c. search needs) (λ c. search needs)
     (λ c. wrote-two (c .before .before .before .before .args .i) (c .before .before .encode .result) (c .before .before .encode .ensures) (c .before .if1 .left) (c .if2 .left) (simp towards-suc)))

@@ -9,5 +9,5 @@ pub put-three-spec : {M : Type 1} → statement M
 put-three-spec = tie.close (tie.spec
     (λ c κs. first _ (c .before .before .pre))
     (λ c κs. (rest (c .before .before .before .put-two .ensures) (c .before .before .before .before .before .before .pre)))
-    (search needs)
+    (λ c. search needs)
     (λ c. then (c .before .before .before .before .before .before .put-two .ensures) (c .before .before .put .ensures)))

@@ -9,5 +9,5 @@ pub put-two-spec : {M : Type 1} → statement M
 put-two-spec = tie.close (tie.spec
     (λ c κs. first _ (c .before .before .pre))
     (λ c κs. (rest (c .before .before .before .put .ensures) (c .before .before .before .before .before .before .pre)))
-    (search needs)
+    (λ c. search needs)
     (λ c. then (c .before .before .before .before .before .before .put .ensures) (c .before .before .put2 .ensures)))

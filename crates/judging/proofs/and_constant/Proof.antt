@@ -7,7 +7,7 @@ use Rattle.judging.proofs.and_constant.Tie as tie
 
 pub and-constant-spec : {M : Type 1} → statement M
 and-constant-spec = tie.close (tie.spec
-    (search needs) (search needs)
+    (λ c. search needs) (λ c. search needs)
     (λ c. rw (c .before .v .given .1))
     (λ c. rw (c .before .enum-told .given .1, eq-eqb (c .before .before .before .args .status) 0 (c .if1 .taken)))
     (λ c. rw (c .before .enum-told .given .1, ne-eqb (c .before .before .before .args .status) 0 (c .if1 .left))))

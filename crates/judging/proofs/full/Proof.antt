@@ -8,5 +8,5 @@ use Rattle.judging.proofs.full.Tie as tie
 pub full-spec : {M : Type 1} → statement M
 full-spec = tie.close (tie.spec
     (λ c. search tests depth 20)
-    (search needs)
+    (λ c. search needs)
     (λ c. search tests depth 20))

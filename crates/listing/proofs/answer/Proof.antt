@@ -33,8 +33,8 @@ pub answer-spec : {M : Type 1} → statement M
 answer-spec =
     tie.close
     (tie.spec
-    (search needs) (search needs)
+    (search needs) (λ c. search needs)
     slice-aggregate-write
     write-requires
-    (search needs)
+    (λ c. search needs)
     (λ c. search needs))

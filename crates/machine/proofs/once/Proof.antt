@@ -4,6 +4,7 @@ use mathlib.Core.Path.{sym, ap, _∙_}
 use denote.Ref.{now}
 use Rattle.exec.specs.declared.Stepped.{Stepped}
 use Rattle.machine.specs.Step.{onceOf, decoded, fetched}
+use Rattle.exec.specs.Core.{whole}
 use Rattle.exec.specs.Exec.{after}
 use Rattle.machine.specs.declared.Fetched.{Fetched}
 use Rattle.thumb.specs.declared.Decoded.{Decoded}
@@ -15,20 +16,25 @@ pub once-spec : {M : Type 1} → statement M
 once-spec =
     tie.close
     (tie.spec
-    (search needs) (search needs) (search needs) (search needs)
-    (λ c. unfold onceOf in let x = c .before .before .before .before .before .before .args in
+    (λ c κs. search needs)
+    (λ c. search needs) (λ c. search needs)
+    (λ c κs. search needs)
+    (λ c. unfold onceOf in let fetch = c .before .before .before .fetch in let x = c .before .before .before .before .before .before .args in
     ap (λ (s : Stepped). after s (now (x .memory))) (c .fault .ensures)
-    ∙ ap (λ (f : Fetched). fetched (now (x .code)) (now (x .memory)) (x .machine) f .after) (sym (c .before .enum-told .given .1) ∙ c .before .before .before .fetch .ensures))
-    (search needs) (search needs) (search needs) (search needs)
-    (λ c. unfold onceOf in let h = c .before .before .before .before .before .h in let fetch = c .before .before .before .before .before .before .before .fetch in
-    let x = c .before .before .before .before .before .before .before .before .before .before .args in
+    ∙ ap (λ (f : Fetched). fetched (now (x .code)) (now (x .memory)) (whole (x .core)) f .after) (sym (c .before .enum-told .given .1) ∙ fetch .ensures))
+    (λ c κs. search needs)
+    (λ c. search needs) (λ c. search needs)
+    (λ c κs. search needs)
+    (λ c. unfold onceOf in let decode = c .before .before .before .decode in let h = c .before .before .before .before .before .h in
+    let fetch = c .before .before .before .before .before .before .before .fetch in let x = c .before .before .before .before .before .before .before .before .before .before .args in
     ap (λ (s : Stepped). after s (now (x .memory))) (c .fault2 .ensures)
-    ∙ ap (λ (d : Decoded). decoded (now (x .code)) (now (x .memory)) (x .machine) d .after) (sym (c .before .enum-told2 .given .1) ∙ c .before .before .before .decode .ensures)
-    ∙ ap (λ (f : Fetched). fetched (now (x .code)) (now (x .memory)) (x .machine) f .after) (sym (h .given .1) ∙ fetch .ensures))
-    (search needs) (search needs)
+    ∙ ap (λ (d : Decoded). decoded (now (x .code)) (now (x .memory)) (whole (x .core)) d .after) (sym (c .before .enum-told2 .given .1) ∙ decode .ensures)
+    ∙ ap (λ (f : Fetched). fetched (now (x .code)) (now (x .memory)) (whole (x .core)) f .after) (sym (h .given .1) ∙ fetch .ensures))
+    (λ c κs. search needs)
+    (λ c. search needs)
     (λ c. unfold onceOf in let i = c .before .before .before .before .before .i in let decode = c .before .before .before .before .before .before .before .decode in
     let h = c .before .before .before .before .before .before .before .before .before .h in
     let fetch = c .before .before .before .before .before .before .before .before .before .before .before .fetch in
-    let x = c .before .before .before .before .before .before .before .before .before .before .before .before .before .before .args in
-    c .before .before .execute .ensures ∙ ap (λ (d : Decoded). decoded (now (x .code)) (now (x .memory)) (x .machine) d .after) (sym (i .given .1) ∙ decode .ensures)
-    ∙ ap (λ (f : Fetched). fetched (now (x .code)) (now (x .memory)) (x .machine) f .after) (sym (h .given .1) ∙ fetch .ensures)))
+    let x = c .before .before .before .before .before .before .before .before .before .before .before .before .before .before .args in c .before .before .execute .ensures
+    ∙ ap (λ (d : Decoded). decoded (now (x .code)) (now (x .memory)) (whole (x .core)) d .after) (sym (i .given .1) ∙ decode .ensures)
+    ∙ ap (λ (f : Fetched). fetched (now (x .code)) (now (x .memory)) (whole (x .core)) f .after) (sym (h .given .1) ∙ fetch .ensures)))

@@ -15,7 +15,7 @@ diadic-spec =
     (λ c κs. unfold work-diadic-code in let put-three = c .before .before .before .before .before .before .before .put-three in
     let start = c .before .before .before .before .before .before .before .before .before .before in
     (rest (c .before .before .before .diadic-instructions .ensures) (rest (put-three .ensures) (start .pre))))
-    (search needs)
+    (λ c. search needs)
     (λ c. unfold work-diadic-code in let diadic-instructions = c .before .before .before .before .before .before .diadic-instructions in
     let put-three = c .before .before .before .before .before .before .before .before .before .before .put-three in
     then (put-three .ensures) (then (diadic-instructions .ensures) (c .before .before .put .ensures))))

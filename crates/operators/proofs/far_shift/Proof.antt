@@ -8,5 +8,5 @@ use Rattle.operators.proofs.far_shift.Tie as tie
 pub far-shift-spec : {M : Type 1} → statement M
 far-shift-spec = tie.close (tie.spec
     (λ c κs. unfold far-shift in (c .before .before .pre))
-    (search needs)
+    (λ c. search needs)
     (λ c. unfold far-shift in c .before .before .put-four .ensures))

@@ -10,5 +10,5 @@ pub less-than-spec : {M : Type 1} → statement M
 less-than-spec = tie.close (tie.spec
     (λ c κs. unfold less-than in first _ (c .before .before .pre))
     (λ c κs. unfold less-than in (rest (c .before .before .before .put-four .ensures) (c .before .before .before .before .before .before .pre)))
-    (search needs)
+    (λ c. search needs)
     (λ c. unfold less-than in then (c .before .before .before .before .before .before .put-four .ensures) (c .before .before .put-three .ensures)))

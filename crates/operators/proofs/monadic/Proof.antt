@@ -11,8 +11,8 @@ monadic-spec =
     tie.close
     (tie.spec
     (λ c κs. unfold work-monadic-code in rw (c .before .if1 .taken) at (c .before .before .before .pre))
-    (search needs)
+    (λ c. search needs)
     (λ c. unfold work-monadic-code in rw (c .before .before .before .before .if1 .taken) (c .before .before .put-three .ensures))
     (λ c κs. unfold work-monadic-code in rw (ne-eqb _ 1 (c .before .if1 .left)) at (c .before .before .before .pre))
-    (search needs)
+    (λ c. search needs)
     (λ c. unfold work-monadic-code in rw (ne-eqb _ 1 (c .before .before .before .before .if1 .left)) (c .before .before .put-three2 .ensures)))

@@ -256,7 +256,7 @@ pub +braces+conditional+list+process+repetition-spec : {M : Type 1} → statemen
     (λ c κs. let s = c .before .before .before in let f = s .pre .1 .0 in let l = inside (s .args .kinds .now) (s .args .i) kind.if (s .pre .1 .1) (omega arith) in omega arith)
     (λ c κs. let s = c .before .before .before .before in let f = s .pre .1 .0 in let l = inside (s .args .kinds .now) (s .args .i) kind.if (s .pre .1 .1) (omega arith) in
     (within-of (s .args .kinds .now) (s .args .i + 1) (s .args .n) (c .expression .result) (c .expression .ensures .0), omega arith))
-    (search needs) (search needs)
+    (λ c. search needs) (λ c. search needs)
     (λ c κs. let s = c .before .before .before .before .before .before .before .before .before .before in let f = s .pre .1 .0 in
     let l = inside (s .args .kinds .now) (s .args .i) kind.if (s .pre .1 .1) (omega arith) in let h = conditional-has t (c .before .before .before) in let w = h .0 in
     omega (arith, s .pre .1 .2))
@@ -264,7 +264,7 @@ pub +braces+conditional+list+process+repetition-spec : {M : Type 1} → statemen
     let read = c .before .before .before .before .j in let s = c .before .before .before .before .before .before .before .before .before .before .before in let f = s .pre .1 .0 in
     let l = inside (s .args .kinds .now) (s .args .i) kind.if (s .pre .1 .1) (omega arith) in let h = conditional-has t (c .before .before .before .before) in let w = h .0 in
     (within-of (s .args .kinds .now) (read .given .0 .0) (read .given .0 .1 .0) (c .process .result) (c .process .ensures .0 .0), omega arith))
-    (search needs) (search needs)
+    (λ c. search needs) (λ c. search needs)
     (λ c κs. let c10 = c .before .before .before .before .before .before .before .before .before .before in let c17 = c10 .before .before .before .before .before .before .before in
     let s = c17 in let f = s .pre .1 .0 in let l = inside (s .args .kinds .now) (s .args .i) kind.if (s .pre .1 .1) (omega arith) in let h = conditional-has t (c10) in let w = h .0 in
     let g = conditional-then t (c .before .before .before) in let u = g .0 in omega (arith, s .pre .1 .2))
@@ -339,7 +339,7 @@ pub +braces+conditional+list+process+repetition-spec : {M : Type 1} → statemen
     (λ c. let s = c .before .before .before .before .before in let f = s .pre .1 .0 in let v = c .before .before .loop in let z = v .inv in omega arith)
     (λ c κs. let s = c .before .before .before .before .before in let f = s .pre .1 .0 in let v = c .before .before .loop in let z = v .inv in
     (omega arith, (record { few = omega arith; short = omega arith; small = f .small; enough = f .enough }, omega arith)))
-    (search needs)
+    (λ c. search needs)
     (λ c. let process = c .before .before .before .process in let s = c .before .before .before .before .before .before .before .before .before in let f = s .pre .1 .0 in
     let v = c .before .before .before .before .before .before .loop in let z = v .inv in (
       resumes-bad (s .args .kinds .now) (s .args .values .now) (s .args .i) (s .args .n) (s .args .table .now) (v .at) (v .row) (v .table) (v .pending) (s .args .top) (v .count)
@@ -348,7 +348,7 @@ pub +braces+conditional+list+process+repetition-spec : {M : Type 1} → statemen
           (process .ensures .0)),
       (kept-then _ _ _ (s .args .top) (s .args .top + v .count) (omega arith) (z .4) (process .ensures .1)),
     ))
-    (search needs) (search needs) (search needs) (search needs)
+    (λ c. search needs) (search needs) (search needs) (search needs)
     (λ c κs. let s = c .before .before .before .before .before .before .before .before .before .before .before .before .before .before .before in let f = s .pre .1 .0 in
     let v = c .before .before .before .before .before .before .before .before .before .before .before .before .loop in let z = v .inv in
     let h = list-has t (c .before .before .before .before .before .before .before) in let w = h .0 in omega arith)
@@ -522,7 +522,7 @@ pub +braces+conditional+list+process+repetition-spec : {M : Type 1} → statemen
     (λ c κs. let s = c .before .before .before in let f = s .pre .1 .0 in let l = inside (s .args .kinds .now) (s .args .i) kind.while (s .pre .1 .1) (omega arith) in omega arith)
     (λ c κs. let s = c .before .before .before .before in let f = s .pre .1 .0 in let l = inside (s .args .kinds .now) (s .args .i) kind.while (s .pre .1 .1) (omega arith) in
     (within-of (s .args .kinds .now) (s .args .i + 1) (s .args .n) (c .expression .result) (c .expression .ensures .0), omega arith))
-    (search needs) (search needs)
+    (λ c. search needs) (λ c. search needs)
     (λ c κs. let s = c .before .before .before .before .before .before .before .before .before .before in let f = s .pre .1 .0 in
     let l = inside (s .args .kinds .now) (s .args .i) kind.while (s .pre .1 .1) (omega arith) in let h = repetition-has t (c .before .before .before) in let w = h .0 in
     omega (arith, s .pre .1 .2))

@@ -7,6 +7,6 @@ use Rattle.reader.proofs.end.Tie as tie
 
 pub end-spec : {M : Type 1} → statement M
 end-spec = tie.close (tie.spec
-    (search needs) (search needs)
+    (search needs) (λ c. search needs)
     (λ c. rw (← c .before .kind-at .ensures, eq-eqb _ kind.semicolon (c .if1 .taken)))
     (λ c. rw (← c .before .kind-at .ensures, ne-eqb _ kind.semicolon (c .if1 .left))))

@@ -15,12 +15,12 @@ pub program-spec : {M : Type 1} → statement M
 program-spec =
     tie.close
     (tie.spec
-    (search needs) (search needs) (search needs)
+    (search needs) (λ c. search needs) (λ c. search needs)
     (λ c κs. let specifications = c .before .before .before .before .before .specifications in let z = c .before .before .before .before .before .before .before .before in
     let f =
     subst (λ (r : Front). Reads-front (z .args .kinds .now) (z .args .values .now) 0 0 0 r) (c .before .before .before .s .given .1) (specifications .ensures (z .args .values .now)) in
     omega arith)
-    (search needs) (search needs)
+    (λ c. search needs) (λ c. search needs)
     (λ c. let process = c .before .before .before .before .process in let s = c .before .before .before .before .before .before .before .before .s in
     let specifications = c .before .before .before .before .before .before .before .before .before .before .specifications in
     let z = c .before .before .before .before .before .before .before .before .before .before .before .before .before in

@@ -46,13 +46,13 @@ specifications-spec =
     (front-process (s .args .kinds .now) values (v .i) (v .n) (v .start) (z .0) (λ e. omega arith) (λ e. omega arith) (λ e. omega arith) (λ e. omega arith)))
     (λ c κs. let s = c .before .before .before .before .before .before in let v = c .before .before .before .before .loop in let z = v .inv in
     let k = c .before .before .before .kind-at .ensures in omega arith)
-    (search needs)
+    (λ c. search needs)
     (λ c.
     let kind-at = c .before .before .before .before .before .before .before .kind-at in let s = c .before .before .before .before .before .before .before .before .before .before in
     let v = c .before .before .before .before .before .before .before .before .loop in let z = v .inv in let k = kind-at .ensures in
     λ values. z .2 values (Bad (c .before .x .given .0 .0))
     (subst (λ (r : Specified). Reads-specification (s .args .kinds .now) values (v .i) r) (c .before .x .given .1) (c .before .before .before .specification .ensures values)))
-    (search needs)
+    (λ c. search needs)
     (λ c.
     let kind-at = c .before .before .before .before .before .before .before .kind-at in let s = c .before .before .before .before .before .before .before .before .before .before in
     let v = c .before .before .before .before .before .before .before .before .loop in let z = v .inv in let k = kind-at .ensures in

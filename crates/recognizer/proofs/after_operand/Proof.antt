@@ -8,7 +8,7 @@ pub after-operand-spec : {M : Type 1} → statement M
 after-operand-spec =
     tie.close
     (tie.spec
-    (search needs) (search needs) (search needs) (search needs)
+    (search needs) (λ c. search needs) (search needs) (search needs)
     (λ c. rw (c .stay .ensures, c .before .deeper .ensures) (search tests depth 20))
     (search needs)
     (λ c. rw (c .after-expression .ensures) (search tests depth 20))

@@ -6,5 +6,5 @@ use Rattle.recognizer.proofs.at_end.Tie as tie
 
 pub at-end-spec : {M : Type 1} → statement M
 at-end-spec = tie.close (tie.spec
-    (search needs) (search needs)
+    (λ c. search needs) (λ c. search needs)
     (λ c. search tests depth 20))

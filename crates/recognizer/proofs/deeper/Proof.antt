@@ -6,6 +6,6 @@ use Rattle.recognizer.proofs.deeper.Tie as tie
 
 pub deeper-spec : {M : Type 1} → statement M
 deeper-spec = tie.close (tie.spec
-    (search needs)
+    (λ c. search needs)
     (λ c. search tests depth 20)
     (λ c. search tests depth 20))

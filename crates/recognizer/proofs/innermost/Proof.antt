@@ -12,6 +12,7 @@ innermost-spec =
     (tie.spec
     (search needs)
     (λ c. rw (frames-none _ _ (c .before .if1 .taken)) (c .no-frame .ensures))
-    (search needs) (search needs) (search needs) (search needs) (search needs) (search needs) (search needs) (search needs) (search needs) (search needs) (search needs) (search needs)
+    (λ c. search needs) (λ c. search needs) (λ c. search needs) (λ c. search needs) (λ c. search needs) (λ c. search needs) (λ c. search needs) (λ c. search needs) (λ c. search needs)
+    (λ c. search needs) (λ c. search needs) (λ c. search needs)
     (λ c. let start = c .before .before .before .before in
     rw (frames-some (start .args .table .now) (start .args .height) (start .args .height - 1) (omega (arith, c .before .before .before .if1 .left))) (search needs)))

@@ -8,7 +8,7 @@ use Rattle.recognizer.proofs.links.Tie as tie
 pub links-spec : {M : Type 1} → statement M
 links-spec = tie.close (tie.spec
     (λ c. sym (links-plus _ _ (c .if1 .taken)))
-    (search needs)
+    (λ c. search needs)
     (λ c. sym (links-other _ _ (c .before .if2 .taken) (c .if3 .taken)))
     (λ c. sym (links-large _ _ (c .if3 .left)))
     (λ c. sym (links-small _ _ (c .before .if1 .left) (c .if2 .left))))

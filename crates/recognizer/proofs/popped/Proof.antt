@@ -6,7 +6,7 @@ use Rattle.recognizer.proofs.popped.Tie as tie
 
 pub popped-spec : {M : Type 1} → statement M
 popped-spec = tie.close (tie.spec
-    (search needs)
+    (λ c. search needs)
     (λ c. rw (c .before .if1 .taken) (omega arith))
     (λ c. rw (c .before .if1 .taken) (omega (arith, c .if2 .left)))
     (λ c. search needs))

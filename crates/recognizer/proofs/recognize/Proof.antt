@@ -27,7 +27,7 @@ recognize-spec =
     Inv-loop
     μ-loop
     (λ c. unfold frames in (omega arith, omega arith, c .before .pre .1, λ values. stands-first _ values))
-    (search needs)
+    (λ c. search needs)
     (λ c κs. let v = c .before .before .before .loop in (v .inv .2, omega (arith, v .inv .1)))
     (λ c. let v = c .before .before .before .before .before .before .loop in let a = c .before .before .advance .ensures in
     (λ values. stands-bad _ values (v .i) (omega arith) _ _ (v .deep) (v .inv .3 values) (a .0) (c .if1 .taken), a .2))

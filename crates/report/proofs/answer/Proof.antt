@@ -40,5 +40,5 @@ answer-spec =
     slice-reshare-prefix-write
     slice-aggregate-write
     write-requires
-    (search needs)
+    (λ c. search needs)
     (λ c. search needs))

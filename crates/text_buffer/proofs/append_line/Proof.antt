@@ -33,5 +33,5 @@ append-line-spec =
     (tie.spec
     array-share-prefix-bytes
     slice-aggregate-append
-    (search needs) (search needs) (λ c. search needs) (λ c. search needs) (search needs) (λ c. search needs)
+    (search needs) (λ c. search needs) (λ c. search needs) (λ c. search needs) (search needs) (λ c. search needs)
     returns-2)

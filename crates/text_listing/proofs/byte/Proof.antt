@@ -11,7 +11,7 @@ pub byte-spec : {M : Type 1} → statement M
 byte-spec =
     tie.close
     (tie.spec
-    (search needs)
+    (λ c. search needs)
     (λ c. omega (arith, c .shared-slice-known .given (c .before .before .args .at)))
     (λ c. (refl, omega (arith, c .shared-slice-known .given (c .before .before .args .at))))
     (λ c. (sym (List·getD-eq-default (c .before .args .image .now) 0 (c .if1 .left)), omega arith)))

@@ -29,11 +29,11 @@ pub listing-spec : {M : Type 1} → statement M
 listing-spec =
     tie.close
     (tie.spec
-    (search needs) (search needs) (search needs) (search needs) (search needs) (search needs)
+    (λ c. search needs) (λ c. search needs) (search needs) (search needs) (search needs) (λ c. search needs)
     returns
-    (search needs)
+    (λ c. search needs)
     (λ c. accepted-text _ _ _ _ (c .before .before .before .before .before .translate .ensures) (c .before .if1 .left) .within)
     (λ c. accepted-text _ _ _ _ (c .before .before .before .before .before .before .translate .ensures) (c .before .before .if1 .left) .counted)
     (λ c κs. accepted-text _ _ _ _ (c .before .before .before .before .before .before .before .translate .ensures) (c .before .before .before .if1 .left) .small)
-    (search needs)
+    (λ c. search needs)
     returns-2)

@@ -28,11 +28,11 @@ accept-spec =
             (image-room q (a .rows .now) (p .sound) (p .holds) (p .fits .in-code) (omega (arith, p .fits .small))),
       ),
     ))
-    (search needs) (search needs) (search needs)
+    (λ c. search needs) (λ c. search needs) (λ c. search needs)
     (λ c. let start = c .before .before .before .before .before .before .before .before .before .before .before in
     let a = c .before .before .before .before .before .before .before .before .before .before .before .args in let q = start .pre .1 .0 in let p = start .pre .1 .1 in
     let f = c .before .before .fill-code .ensures q (p .sound) (p .holds) (p .rows-are) (p .fits .in-code) in omega (arith, f .1, p .fits .small))
-    (search needs) (search needs)
+    (λ c. search needs) (λ c. search needs)
     (λ c. let fill-table = c .before .before .before .before .before .before .fill-table in
     let a = c .before .before .before .before .before .before .before .before .before .before .before .args in
     λ q p. let f = c .before .before .fill-code .ensures q (p .sound) (p .holds) (p .rows-are) (p .fits .in-code) in

@@ -10,9 +10,9 @@ pub assign-spec : {M : Type 1} → statement M
 assign-spec =
     tie.close
     (tie.spec
-    (search needs) (search needs)
+    (search needs) (λ c. search needs)
     (λ c κs. declared (c .before .before .before .before .pre .0) (assign-names (c .before .before .before .before .pre .0) (c .before .read-row .ensures) .0))
-    (search needs)
+    (λ c. search needs)
     (λ c κs. let read-row = c .before .before .before .before .read-row in let start = c .before .before .before .before .before .before .before in (
       named (start .pre .0) (assign-names (start .pre .0) (read-row .ensures) .1),
       first _ (rw (assign-code (start .pre .0) (read-row .ensures) (c .before .before .read-row2 .ensures)) at (start .pre .1)),
@@ -23,7 +23,7 @@ assign-spec =
       offset-small (start .pre .0) (read-row2 .ensures) (assign-names (start .pre .0) (read-row .ensures) .0),
       rest (c .before .before .before .expression .ensures) (rw (assign-code (start .pre .0) (read-row .ensures) (read-row2 .ensures)) at (start .pre .1)),
     ))
-    (search needs)
+    (λ c. search needs)
     (λ c. let expression = c .before .before .before .before .before .before .expression in
     let read-row2 = c .before .before .before .before .before .before .before .before .before .read-row2 in
     let read-row = c .before .before .before .before .before .before .before .before .before .before .before .read-row in

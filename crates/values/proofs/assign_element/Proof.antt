@@ -10,9 +10,9 @@ pub assign-element-spec : {M : Type 1} → statement M
 assign-element-spec =
     tie.close
     (tie.spec
-    (search needs) (search needs)
+    (search needs) (λ c. search needs)
     (λ c κs. declared (c .before .before .before .before .pre .0) (assign-element-names (c .before .before .before .before .pre .0) (c .before .read-row .ensures) .0))
-    (search needs)
+    (λ c. search needs)
     (λ c κs. let read-row = c .before .before .before .before .read-row in let start = c .before .before .before .before .before .before .before in (
       named (start .pre .0) (assign-element-names (start .pre .0) (read-row .ensures) .1),
       first _ (rw (assign-element-code (start .pre .0) (read-row .ensures) (c .before .before .read-row2 .ensures)) at (start .pre .1)),
@@ -21,7 +21,7 @@ assign-element-spec =
     let read-row2 = c .before .before .before .before .before .before .read-row2 in let read-row = c .before .before .before .before .before .before .before .before .read-row in
     let start = c .before .before .before .before .before .before .before .before .before .before .before in
     first _ (rest (c .before .before .before .expression .ensures) (rw (assign-element-code (start .pre .0) (read-row .ensures) (read-row2 .ensures)) at (start .pre .1))))
-    (search needs)
+    (λ c. search needs)
     (λ c κs. let c4 = c .before .before .before .before in let c8 = c4 .before .before .before .before in let c11 = c8 .before .before .before in let c13 = c11 .before .before in
     let c16 = c13 .before .before .before in (
       named (c16 .pre .0) (assign-element-names (c16 .pre .0) (c13 .read-row .ensures) .2),
@@ -34,7 +34,7 @@ assign-element-spec =
       rest (c .before .before .before .expression2 .ensures)
           (rest (c8 .check-subscript .ensures) (rest (c12 .expression .ensures) (rw (assign-element-code (c20 .pre .0) (c17 .read-row .ensures) (c15 .read-row2 .ensures)) at (c20 .pre .1)))),
     ))
-    (search needs)
+    (λ c. search needs)
     (λ c. let c6 = c .before .before .before .before .before .before in let c11 = c6 .before .before .before .before .before in let c15 = c11 .before .before .before .before in
     let c18 = c15 .before .before .before in let c20 = c18 .before .before in let c23 = c20 .before .before .before in
     rw (assign-element-code (c23 .pre .0) (c20 .read-row .ensures) (c18 .read-row2 .ensures))

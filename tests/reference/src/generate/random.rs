@@ -1,4 +1,5 @@
-//! A small generator of pseudo-random numbers (SplitMix64).
+//! A small generator of pseudo-random numbers (SplitMix64), from a fixed seed,
+//! so that every run compares the same cases. The only one in `tests/`.
 
 pub struct Random {
     state: u64,
@@ -35,6 +36,11 @@ impl Random {
         &items[self.below(items.len())]
     }
 
+    /// Any word, all alike.
+    pub fn any_word(&mut self) -> u32 {
+        self.number() as u32
+    }
+
     /// A word: small, near a power of two, near the ends of the signed and
     /// unsigned numbers, or any.
     pub fn word(&mut self) -> u32 {
@@ -44,7 +50,7 @@ impl Random {
             2 => self.below(300) as u32,
             3 => (1u32 << self.below(32)).wrapping_add(near).wrapping_sub(1),
             4 => self.pick(&[0u32, 0x7FFF_FFFF, 0x8000_0000, 0xFFFF_FFFF, 1_020, 257]).wrapping_sub(near),
-            _ => self.number() as u32,
+            _ => self.any_word(),
         }
     }
 }

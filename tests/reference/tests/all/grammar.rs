@@ -3,6 +3,7 @@
 
 use crate::earley::{alphabet, first_misfit, Chart};
 use crate::report;
+use reference::generate::Random;
 use reference::grammar::parse;
 use reference::tokens::{Kind, Token};
 
@@ -76,11 +77,7 @@ fn every_viable_short_string_and_each_next_token() {
 #[test]
 fn random_walks_and_each_next_token() {
     let alphabet = alphabet();
-    let mut state = 1u64;
-    let mut below = |bound: usize| {
-        state = state.wrapping_mul(6_364_136_223_846_793_005).wrapping_add(1_442_695_040_888_963_407);
-        (state >> 33) as usize % bound
-    };
+    let mut random = Random::new(1);
     let mut strings = 0;
     for _ in 0..300 {
         let (mut text, mut chart) = (Text::default(), Chart::new());
@@ -100,7 +97,7 @@ fn random_walks_and_each_next_token() {
             if viable.is_empty() {
                 break;
             }
-            let sample = viable[below(viable.len())];
+            let sample = *random.pick(&viable);
             chart.push(sample.1);
             text.push(sample);
         }

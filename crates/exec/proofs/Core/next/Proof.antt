@@ -1,0 +1,11 @@
+-- `exec::Core::next` meets its contract: the answers are the definition's, test by test and call by call.
+-- Rests on the definitions that its contract cites; assumes nothing.
+use Rattle.exec.specs.State.{next}
+use borrow.Author.Needs.{needs}
+use Rattle.exec.proofs.Core.next.Statement.{statement}
+use Rattle.exec.proofs.Core.next.Tie as tie
+
+pub next-spec : {M : Type 1} → statement M
+next-spec = tie.close (tie.spec
+    (search needs)
+    (λ c. unfold next in rw (c .add .ensures)))

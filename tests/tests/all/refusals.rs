@@ -1,0 +1,204 @@
+//! docs/REFUSALS.md says what is so: each example is tried with the proved calls, and each number has the header's name.
+
+use crate::documents::{no_complaints, quoted, read};
+use crate::pages::{defines, number, refused_as, run, translate, translate_into};
+use crate::print;
+use std::collections::{BTreeMap, BTreeSet};
+use tests::arm::State;
+use tests::{proved, CODE_BYTES, TABLE_WORDS};
+
+/// A source of parts: `text`, or so many times `text`, joined by "then".
+fn built(parts: &str) -> Option<Vec<u8>> {
+    let mut source = Vec::new();
+    for (i, (before, text)) in quoted(parts).into_iter().enumerate() {
+        let before = if i == 0 { before } else { before.strip_prefix(" then ")? };
+        let count = match before.strip_suffix(" times ") {
+            None if before.is_empty() => None,
+            count => Some(number(count?)?),
+        };
+        for i in 0..count.unwrap_or(1) {
+            let text = if count.is_some() { text.replace('%', &i.to_string()) } else { text.to_string() };
+            source.extend_from_slice(text.as_bytes());
+        }
+    }
+    Some(source)
+}
+
+/// A source, perhaps with a short buffer, and its answer: a refusal with its place, or the end of its run.
+fn source_example(told: &str) -> Result<(), String> {
+    let (parts, rest) = match told.split_once("`, with ") {
+        Some((parts, rest)) => (format!("{parts}`"), rest),
+        None => told.split_once("`: ").map(|(parts, rest)| (format!("{parts}`"), rest)).ok_or("no answer")?,
+    };
+    let (lent, answer) = rest.split_once(": ").filter(|_| told.contains("`, with ")).unwrap_or(("", rest));
+    let lent = |unit: &str| lent.strip_suffix(unit).and_then(number);
+    let source = built(&parts).ok_or("no source")?;
+    let table = lent(" words of table").map_or(TABLE_WORDS, |n| n as usize);
+    let code = lent(" bytes of code").map_or(CODE_BYTES, |n| n as usize);
+    let translated = translate_into(&source, table, code);
+    if answer.contains(" at ") {
+        return refused_as(&source, &translated.answer, answer).map_or(Ok(()), Err);
+    }
+    if translated.answer.status != 0 {
+        return Err(format!("refused: {:?}", translated.answer));
+    }
+    let (end, _) = run(&translated, &vec![0; translated.answer.data as usize])?;
+    (end == answer).then_some(()).ok_or_else(|| format!("it ends by {end}"))
+}
+
+/// `step, code 2005, pc = 1`, `start, data = 1, depth = 2, memory of 12 words`, `encode, op = 5, ...`: the answer.
+fn machine_status(call: &str) -> Option<u32> {
+    let mut parts = call.split(", ");
+    let called = parts.next()?;
+    let mut fields = BTreeMap::new();
+    let (mut code, mut memory) = (Vec::new(), Vec::new());
+    for part in parts {
+        if let Some((name, value)) = part.split_once(" = ") {
+            fields.insert(name, u32::try_from(number(value)?).ok()?);
+        } else if let Some(length) = part.strip_prefix("code of ") {
+            code = vec![0; number(length.strip_suffix(" bytes")?)? as usize];
+        } else if let Some(length) = part.strip_prefix("memory of ") {
+            memory = vec![0; number(length.strip_suffix(" words")?)? as usize];
+        } else {
+            for half in part.strip_prefix("code ")?.split(' ') {
+                code.extend_from_slice(&u16::from_str_radix(half, 16).ok()?.to_le_bytes());
+            }
+        }
+    }
+    let mut field = |name: &str| fields.remove(name);
+    let status = match called {
+        "step" => {
+            let mut state = State { pc: field("pc").unwrap_or(0), ..State::default() };
+            (0..8).for_each(|r| state.r[r] = field(&format!("r{r}")).unwrap_or(0));
+            let before = (state.clone(), memory.clone());
+            let (status, _) = proved::step(&mut state, &code, &mut memory);
+            if status != 0 {
+                assert_eq!(before, (state, memory), "{call} changed something");
+            }
+            status
+        }
+        "start" => {
+            let (status, state) = proved::start(&code, &memory, field("data")?, field("depth")?);
+            if status != 0 {
+                assert_eq!(state, State::default(), "{call}");
+            }
+            status
+        }
+        "encode" => {
+            let mut byte = |name: &str| field(name).and_then(|n| u8::try_from(n).ok());
+            let [op, a, b, c] = [byte("op")?, byte("a")?, byte("b")?, byte("c")?];
+            let [status, rest @ ..] = proved::encode(op, a, b, c, field("k")? as i32);
+            if status != 0 {
+                assert_eq!(rest, [0; 3], "{call}");
+            }
+            status
+        }
+        _ => return None,
+    };
+    fields.is_empty().then_some(status)
+}
+
+fn example(told: &str) -> Result<(), String> {
+    if !["step, ", "start, ", "encode, "].iter().any(|call| told.starts_with(call)) {
+        return source_example(told);
+    }
+    let (call, answer) = told.rsplit_once(": ").ok_or("no answer")?;
+    let status = machine_status(call).ok_or("not understood")?;
+    (answer.parse() == Ok(status)).then_some(()).ok_or_else(|| format!("it answers {status}"))
+}
+
+/// The numbers that need a section: translation 1 to 14, SVC 0 to 2, faults 21 to 24, refusals 31 to 35.
+fn wanted() -> BTreeSet<String> {
+    let numbers = (1..=14).chain(21..=24).chain(31..=35).map(|n: u32| n.to_string());
+    numbers.chain((0..3).map(|n| format!("SVC {n}"))).collect()
+}
+
+/// What is wrong with a page, and how many examples it has.
+fn complaints(page: &str) -> (Vec<String>, usize) {
+    let header = defines();
+    let mut wrong = Vec::new();
+    let mut seen = BTreeSet::new();
+    let mut count = 0;
+    for part in page.split("\n## ").skip(1) {
+        let heading = part.lines().next().expect("a heading");
+        let (told, name) = heading.split('`').next().zip(heading.split('`').nth(1)).expect("a name");
+        let told = told.trim();
+        if !seen.insert(told.to_string()) {
+            wrong.push(format!("{told} stands twice"));
+        }
+        let value = told.strip_prefix("SVC ").unwrap_or(told);
+        if header.get(name).map(u32::to_string).as_deref() != Some(value) {
+            wrong.push(format!("{name} is not {told}"));
+        }
+        let section = part.split("\n# ").next().expect("a part");
+        let examples: Vec<&str> = section.lines().filter_map(|line| line.strip_prefix("- ")).collect();
+        let own = |told: &str| {
+            let answer = told.rsplit_once("`: ").or(told.rsplit_once(": ")).map_or("", |(_, answer)| answer);
+            answer == value || answer.starts_with(&format!("{value} at ")) || heading.starts_with("SVC")
+        };
+        if !examples.iter().any(|told| own(told)) {
+            wrong.push(format!("{heading}: no example"));
+        }
+        for told in &examples {
+            wrong.extend(example(told).err().map(|complaint| format!("{told}: {complaint}")));
+        }
+        count += examples.len();
+    }
+    wrong.extend(
+        wanted().symmetric_difference(&seen).map(|number| format!("{number}: no section, or no number")),
+    );
+    (wrong, count)
+}
+
+#[test]
+fn the_page_says_what_is_so() {
+    let (wrong, count) = complaints(&read("docs/REFUSALS.md"));
+    no_complaints(&wrong);
+    assert!(count > 40, "the page was not read as it is written");
+    print(&format!("refusals: {} numbers, {count} examples", wanted().len()));
+}
+
+/// The examples that stand one step inside a limit are accepted, so that they are as short as they can be.
+#[test]
+fn limits_are_exact() {
+    for inside in [
+        "`|` then 16,378 times `a` then `|skip`",
+        "`var ` then 32 times `n` then `; skip`",
+        "`{` then 510 times `skip;` then `{}}`",
+        "`var a; a := ` then 31 times `(` then `1` then 31 times `)`",
+        "`var a; a := ` then 31 times `1 + ` then `1`",
+        "31 times `{` then `skip` then 31 times `}`",
+        "`array a [ 8191 ]; var b; skip`",
+        "255 times `var n%; ` then `var more; skip`",
+    ] {
+        let source = built(inside).expect("a source");
+        assert_eq!(translate(&source).answer.status, 0, "{inside}");
+    }
+    assert_eq!(translate_into(b"skip", 4, 304).answer.status, 0);
+}
+
+/// The check itself: a page that is wrong in one place is noticed.
+#[test]
+fn wrong_pages_are_noticed() {
+    let page = read("docs/REFUSALS.md");
+    for (old, new) in [
+        ("16,379 times", "16,378 times"),
+        ("33 times `n`", "32 times `n`"),
+        ("5 at 2,560", "5 at 2,561"),
+        ("`skip;`: 6 at 4, `;`", "`skip;`: 6 at 4, `}`"),
+        ("`skip;`: 6 at 4, `;`", "`skip;`: 7 at 4, `;`"),
+        ("with 3 words of table", "with 4 words of table"),
+        ("with 303 bytes", "with 304 bytes"),
+        ("- `stop`: stop", "- `stop`: finish"),
+        ("code 6800, r0 = 2: 23", "code 6800, r0 = 4: 23"),
+        ("code 6800, r0 = 2: 23", "code 6800, r9 = 2: 23"),
+        ("memory of 13 words: 0", "memory of 13 words: 33"),
+        ("`GUTILAMBOY_TOO_DEEP`: ", "`GUTILAMBOY_GRAMMAR`: "),
+        ("## 9 `", "## 19 `"),
+        ("- `var a; var a; skip`: 9 at 11, `a`\n", ""),
+        ("encode, op = 5, a = 8", "encode, op = 5, a = 7"),
+    ] {
+        assert!(page.contains(old), "{old}");
+        assert!(!complaints(&page.replacen(old, new, 1)).0.is_empty(), "{new} for {old}");
+    }
+}
