@@ -1,16 +1,16 @@
--- The exported calls over words: what each leaves in its answer, in the 12 words of the state and in the lent buffers. Definitions; rests on `numbers` and on what the calls mean.
+-- The exported calls over words: what each leaves in its answer, in the 12 words of the state and in the lent buffers. Definitions; rests on `gutilamboy_numbers` and on what the calls mean.
 use Prim.Native.Nat.{ℕ}
 use mathlib.Core.List.{List, [], _∷_}
-use Rattle.exec.specs.Exec.{After}
-use Rattle.exec.specs.declared.Stepped.{Stepped}
-use Rattle.machine.specs.Step.{stepOf}
-use Rattle.machine.specs.Run.{RunAfter, runOf}
-use Rattle.machine.specs.Start.{startOf}
-use Rattle.machine.specs.declared.Ran.{Ran}
-use Rattle.machine.specs.declared.Started.{Started}
-use Rattle.translate.specs.Translate.{Translated, translation}
-use Rattle.translate.specs.declared.Translation.{Translation}
-use Rattle.numbers.specs.Numbers.{stateWords, stateOf}
+use Rattle.arm_state.specs.Effects.{After}
+use Rattle.arm_state.specs.declared.Stepped.{Stepped}
+use Rattle.arm_machine.specs.Step.{stepOf}
+use Rattle.arm_machine.specs.MachineRun.{RunAfter, runOf}
+use Rattle.arm_machine.specs.Start.{startOf}
+use Rattle.arm_machine.specs.declared.Ran.{Ran}
+use Rattle.arm_machine.specs.declared.Started.{Started}
+use Rattle.translate_source.specs.Translate.{Translated, translation}
+use Rattle.translate_source.specs.declared.Translation.{Translation}
+use Rattle.gutilamboy_numbers.specs.Numbers.{stateWords, stateOf}
 
 -- ── start ──
 

@@ -3,8 +3,8 @@
 ghost use mathlib.Core.Path.{_≡_};
 ghost use lib.ListN.{length};
 ghost use Rattle.gutilamboy.specs.Calls as calls;
-use numbers::state_of;
-use numbers::state_words;
+use gutilamboy_numbers::state_of;
+use gutilamboy_numbers::state_words;
 
 // Into `out`: status, place, tokens, rows, data, depth and the image's bytes; the rows into `table`, the image into `code`.
 #[no_mangle]
@@ -17,7 +17,7 @@ pub extern "C" fn gutilamboy_translate(
     ensures { λ _. ⌜ calls.translateLeft (now (out .exit)) (now (table .exit)) (now (code .exit))
         ≡ calls.translateCall (now (source .entry)) (length (now (table .entry))) (length (now (code .entry))) ⌝ }
 {
-    let t = translate::translate(source, table, code);
+    let t = translate_source::translate(source, table, code);
     *out = [t.status, t.place, t.tokens, t.rows, t.data, t.depth, t.code];
 }
 
@@ -32,7 +32,7 @@ pub extern "C" fn gutilamboy_start(
 ) -> u32
     ensures { λ r. ⌜ calls.startLeft r (now (state .exit)) ≡ calls.startCall (now (code .entry)) (now (memory .entry)) declared depth ⌝ }
 {
-    let started = machine::start(code, memory, declared, depth);
+    let started = arm_machine::start(code, memory, declared, depth);
     *state = state_words(started.machine);
     started.status
 }
@@ -47,7 +47,7 @@ pub extern "C" fn gutilamboy_step(
 )
     ensures { λ _. ⌜ calls.left (now (out .exit)) (now (state .exit)) (now (memory .exit)) ≡ calls.stepCall (now (code .entry)) (now (memory .entry)) (now (state .entry)) ⌝ }
 {
-    let stepped = machine::step(state_of(state), code, memory);
+    let stepped = arm_machine::step(state_of(state), code, memory);
     *state = state_words(stepped.machine);
     *out = [stepped.status, stepped.number];
 }
@@ -63,7 +63,7 @@ pub extern "C" fn gutilamboy_run(
 )
     ensures { λ _. ⌜ calls.left (now (out .exit)) (now (state .exit)) (now (memory .exit)) ≡ calls.runCall limit (now (code .entry)) (now (memory .entry)) (now (state .entry)) ⌝ }
 {
-    let ran = machine::run(state_of(state), code, memory, limit);
+    let ran = arm_machine::run(state_of(state), code, memory, limit);
     *state = state_words(ran.machine);
     *out = [ran.status as u64, ran.number as u64, ran.count];
 }

@@ -1,10 +1,10 @@
 // The C boundary of the instructions' encoding: encode and decode by number. An archive of its own, since a run is fastest where it alone calls decode.
 ghost use mathlib.Core.Path.{_≡_};
-ghost use Rattle.thumb.specs.Code.{decodeOf};
-ghost use Rattle.numbers.specs.Numbers as numbers;
-use numbers::decoded_words;
-use numbers::instruction;
-use thumb::Decoded;
+ghost use Rattle.arm_encoding.specs.Encoding.{decodeOf};
+ghost use Rattle.gutilamboy_numbers.specs.Numbers as numbers;
+use arm_encoding::Decoded;
+use gutilamboy_numbers::decoded_words;
+use gutilamboy_numbers::instruction;
 
 // Into `out`: status, count, first and second halfword; a number that no instruction has is refused as a field out of range is.
 #[no_mangle]
@@ -15,7 +15,7 @@ pub extern "C" fn gutilamboy_encode(op: u8, a: u8, b: u8, c: u8, k: u32, out: &m
         *out = [35, 0, 0, 0];
         return;
     };
-    let e = thumb::encode(i);
+    let e = arm_encoding::encode(i);
     *out = [e.status, e.count, e.first as u32, e.second as u32];
 }
 
@@ -24,5 +24,5 @@ pub extern "C" fn gutilamboy_encode(op: u8, a: u8, b: u8, c: u8, k: u32, out: &m
 pub extern "C" fn gutilamboy_decode(first: u16, second: u16, out: &mut [u32; 5])
     ensures { λ _. ⌜ now (out .exit) ≡ numbers.decodedWords (decodeOf first second) ⌝ }
 {
-    *out = decoded_words(thumb::decode(first, second));
+    *out = decoded_words(arm_encoding::decode(first, second));
 }

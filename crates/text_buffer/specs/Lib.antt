@@ -1,3 +1,3 @@
 -- Texts in a lent buffer.
 pub mod Buffer
-pub mod Laws
+pub mod BufferLaws

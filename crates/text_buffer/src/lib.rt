@@ -1,8 +1,8 @@
 // Texts one after another in a lent buffer, as far as there is room.
 ghost use mathlib.Core.Path.{_≡_};
-ghost use Rattle.text.specs.Text.{written};
+ghost use Rattle.text_lines.specs.Text.{written};
 ghost use Rattle.text_buffer.specs.Buffer.{placed, left};
-use text::Line;
+use text_lines::Line;
 
 // A text from a place of the buffer on, as far as it fits, and the place after it.
 pub fn append(out: &mut [u8], at: usize, text: &[u8]) -> usize

@@ -6,19 +6,19 @@ use Prim.Native.Nat.{ℕ, zero, suc, _<_}
 use native.Mathlib.Omega.{arith}
 use lib.Dec.{eqb}
 use lib.ListN.{getD}
-use Rattle.word.specs.Choice.{pick}
-use Rattle.thumb.specs.declared.Instr.{Instr}
-use Rattle.thumb.specs.Code.{encodeOf}
-use Rattle.thumb.specs.Laws.{second-fits}
-use Rattle.thumb.specs.Bytes.{halfword-bytes, encoded-bytes}
-use Rattle.thumb.specs.ByteLaws.{first-fits}
-use Rattle.program.specs.Tree.{Program}
-use Rattle.program.specs.Core.{core-process}
-use Rattle.rules.specs.Bytes.{bytes-of, bytes}
-use Rattle.rules.specs.Code.{image-code, image}
-use Rattle.disassembly.specs.Listing.{halfwords, lines}
-use Rattle.disassembly.specs.ReadBack.{read-back}
-use Rattle.disassembly.specs.ListingLaws.{lines-back}
+use Rattle.arm_word.specs.Choice.{pick}
+use Rattle.arm_encoding.specs.declared.Instr.{Instr}
+use Rattle.arm_encoding.specs.Encoding.{encodeOf}
+use Rattle.arm_encoding.specs.EncodingLaws.{second-fits}
+use Rattle.arm_encoding.specs.EncodingBytes.{halfword-bytes, encoded-bytes}
+use Rattle.arm_encoding.specs.EncodingByteLaws.{first-fits}
+use Rattle.x_program.specs.Tree.{Program}
+use Rattle.x_program.specs.Core.{core-process}
+use Rattle.translate_rules.specs.InstructionBytes.{bytes-of, bytes}
+use Rattle.translate_rules.specs.ImageCode.{image-code, image}
+use Rattle.text_disassembly.specs.ImageLines.{halfwords, lines}
+use Rattle.text_disassembly.specs.HalfwordsBack.{read-back}
+use Rattle.text_disassembly.specs.ImageLineLaws.{lines-back}
 
 -- the bytes of halfwords
 bytes-in : List ℕ → List ℕ

@@ -1,4 +1,4 @@
 -- The listing of a source, and its laws.
 pub mod Listing
-pub mod Laws
+pub mod ListingParts
 pub mod ImageBack

@@ -2,9 +2,9 @@
 -- Assumes nothing.
 use mathlib.Core.List.{List}
 use Prim.Native.Nat.{ℕ}
-use Rattle.front.specs.Front.{Outcome, refused, accepted, front}
-use Rattle.rules.specs.Code.{image}
-use Rattle.disassembly.specs.Listing.{text-from}
+use Rattle.x_verdict.specs.Front.{Outcome, refused, accepted, front}
+use Rattle.translate_rules.specs.ImageCode.{image}
+use Rattle.text_disassembly.specs.ImageLines.{text-from}
 use Rattle.text_report.specs.Report.{table-words, code-bytes, report-of}
 
 -- of an accepted source the lines of its image, from address 0 on; of a refused one the report

@@ -2,8 +2,8 @@
 ghost use mathlib.Core.Path.{_≡_};
 ghost use Prim.Native.Nat.{_<_, _≤_, min};
 ghost use lib.ListN.{length, getD};
-ghost use Rattle.machine.specs.Step.{halfAt};
-ghost use Rattle.disassembly.specs.Listing.{«text-from»};
+ghost use Rattle.arm_machine.specs.Step.{halfAt};
+ghost use Rattle.text_disassembly.specs.ImageLines.{«text-from»};
 ghost use Rattle.text_buffer.specs.Buffer.{left, placed, overwritten};
 ghost use Rattle.text_listing.specs.Listing.{«listing-of»};
 use text_buffer::append_line;
@@ -36,8 +36,8 @@ fn image_lines(image: &[u8], out: &mut [u8]) -> usize
     while at < image.len() {
         let first = halfword(image, at);
         let second = halfword(image, at + 2);
-        end = append_line(out, end, disassembly::line(at as u32, first, second));
-        at += disassembly::size(first, second);
+        end = append_line(out, end, text_disassembly::line(at as u32, first, second));
+        at += text_disassembly::size(first, second);
     }
     end
 }
@@ -48,7 +48,7 @@ pub fn listing(source: &[u8], out: &mut [u8]) -> usize
 {
     let mut table = [0u32; 4096];
     let mut code = [0u8; 49408];
-    let t = translate::translate(source, &mut table, &mut code);
+    let t = translate_source::translate(source, &mut table, &mut code);
     if t.status != 0 {
         return append_line(out, 0, text_report::answer_lines(t));
     }

@@ -1,4 +1,4 @@
 -- The report of a source, and document 01's own example.
 pub mod Report
-pub mod Laws
-pub mod Cases
+pub mod ReportLaws
+pub mod ReportCases

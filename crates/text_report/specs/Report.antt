@@ -1,10 +1,10 @@
 -- The report of a source, whole. Definitions; rests on the translation and the seven lines.
 use mathlib.Core.List.{List}
 use Prim.Native.Nat.{ℕ}
-use Rattle.program.specs.Layout.{table-room, code-room}
-use Rattle.text.specs.Text.{summary}
-use Rattle.translate.specs.declared.Translation.{Translation}
-use Rattle.translate.specs.Translate.{translation}
+use Rattle.x_program.specs.Layout.{table-room, code-room}
+use Rattle.text_lines.specs.Text.{summary}
+use Rattle.translate_source.specs.declared.Translation.{Translation}
+use Rattle.translate_source.specs.Translate.{translation}
 
 -- Limits and refusals: "4 x tokens words" and "48 x tokens + 256 bytes" for 1,024 tokens, the most that a source may have: 13 and 14 never show
 abbrev pub table-words : ℕ

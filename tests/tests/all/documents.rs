@@ -136,9 +136,9 @@ fn demands_name_what_exists() {
 
 /// The statements.
 const STATEMENTS: [&str; 3] = [
-    "crates/demands/specs/Statement.antt",
-    "crates/demands/specs/Boundary.antt",
-    "crates/simulate/specs/Statement.antt",
+    "crates/theorem_demands/specs/Demands.antt",
+    "crates/theorem_demands/specs/ExportedDemand.antt",
+    "crates/theorem_simulation/specs/Demand3.antt",
 ];
 
 /// The repository's own file that a line uses, if it does: `use Rattle.CRATE.specs.File`, in the crate itself
@@ -272,7 +272,7 @@ fn wrong_lists_are_noticed() {
         (&*row, String::new()),
         (&*row, row.repeat(2)),
         (&*row, row.replace(" | ", " | 1")),
-        ("crates/word/specs/Word.antt", "crates/word/specs/Laws.antt".to_string()),
+        ("crates/arm_word/specs/Word.antt", "crates/arm_word/specs/WordLaws.antt".to_string()),
         (" files, ", " files and ".to_string()),
     ] {
         assert!(readme.contains(old), "{old}");
@@ -330,12 +330,12 @@ fn functions(of: &str, code: &str) -> Vec<Function> {
 
 /// The public calls below the exported ones: these have no premise either.
 const PUBLIC: [&str; 8] = [
-    "translate::translate",
-    "thumb::encode",
-    "thumb::decode",
-    "machine::start",
-    "machine::step",
-    "machine::run",
+    "translate_source::translate",
+    "arm_encoding::encode",
+    "arm_encoding::decode",
+    "arm_machine::start",
+    "arm_machine::step",
+    "arm_machine::run",
     "text_report::report",
     "text_listing::listing",
 ];

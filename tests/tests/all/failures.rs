@@ -3,7 +3,7 @@
 //! write. A wrapper's exit status is then 1, and 0 on every source, refused ones too.
 
 use crate::boundary::compiler;
-use crate::{print, repository, scratch};
+use crate::{built, print, repository, scratch};
 use std::fs::{create_dir_all, remove_file, write, File, OpenOptions};
 use std::io::Write;
 use std::os::fd::OwnedFd;
@@ -155,12 +155,16 @@ fn faulty() -> PathBuf {
 }
 
 /// A program that stands in for another, right or wrong in one way.
-fn stub(folder: &Path, called: &Called, wrong: &str) {
-    let program = folder.join(called.name);
+fn stub(program: &Path, called: &Called, wrong: &str) {
     let define = |name: &str, text: &str| PathBuf::from(format!("-D{name}={text}"));
     let output = format!("{:?}", String::from_utf8_lossy(&called.whole));
     let mut words = vec![define("NAME", &format!("{:?}", called.name)), define("OUTPUT", &output)];
-    words.extend([define("WRONG", wrong), "-o".into(), program, repository().join("tests/c/stub.c")]);
+    words.extend([
+        define("WRONG", wrong),
+        "-o".into(),
+        program.to_path_buf(),
+        repository().join("tests/c/stub.c"),
+    ]);
     compiler("cc", &words);
 }
 
@@ -171,7 +175,7 @@ fn failures_are_told() {
     // and went on after a failed write.
     let faulty = faulty();
     for (name, _) in PROGRAMS {
-        let program = Called::new(vec![repository().join("target/bin").join(name)], name, 0);
+        let program = Called::new(vec![built(&repository(), name)], name, 0);
         program.failed_reads();
         program.failed_writes();
         program.faulty_writes(&faulty);
@@ -190,7 +194,7 @@ fn wrong_tellers_are_noticed() {
         let passes = |wrong: &str| {
             let folder = scratch(&format!("stub-{wrong}"));
             let called = Called::new(vec![folder.join(name)], name, 0);
-            stub(&folder, &called, wrong);
+            stub(&folder.join(called.name), &called, wrong);
             let checks = || {
                 called.failed_reads();
                 called.failed_writes();
@@ -218,7 +222,7 @@ fn like_the_repository(folder: &Path, name: &str) -> PathBuf {
 /// Puts a script in a program's place. Another process writes it, since what this one has open for writing, a child of
 /// another test may have too, and then it can't be run.
 fn script(folder: &Path, name: &str, text: &str) {
-    let file = folder.join("target/bin").join(name);
+    let file = built(folder, name);
     let writer = r##"rm -f "$0"; printf '#!/bin/sh\n%s\n' "$1" >"$0" && chmod 755 "$0""##;
     let written = Command::new("sh").arg("-c").arg(writer).arg(&file).arg(text).status();
     assert!(written.expect("sh").success());
@@ -259,7 +263,7 @@ fn wrappers_tell() {
         let folder = scratch("a wrapper's folder");
         let wrapper = like_the_repository(&folder, name);
         let called = Called::new(vec![wrapper.clone()], name, 1);
-        stub(&folder.join("target/bin"), &called, "RIGHT");
+        stub(&built(&folder, name), &called, "RIGHT");
         for shell in shells() {
             let called = Called::new(vec![shell, wrapper.clone()], name, 1);
             called.succeeds("a source", &mut called.command());
@@ -337,7 +341,7 @@ fn other_places(folder: &Path, called: &Called) {
 
 /// Where the program is not built, its wrapper says how to build it; and it takes no words.
 fn not_built(folder: &Path, name: &str) {
-    let program = folder.join("target/bin").join(name);
+    let program = built(folder, name);
     remove_file(&program).expect("the stub");
     let wrapper = folder.join("bin").join(name);
     let run = |words: &[&str]| {
@@ -348,7 +352,7 @@ fn not_built(folder: &Path, name: &str) {
     let (status, said) = run(&[]);
     assert_eq!(status, Some(127));
     assert!(
-        said.contains(&format!("rt check {name}")) && said.contains(&*folder.to_string_lossy()),
+        said.contains(&format!("rt check program_{name}")) && said.contains(&*folder.to_string_lossy()),
         "{said}"
     );
     assert_eq!(run(&["a.x"]), (Some(2), format!("usage: {name} < source\n")));

@@ -1,7 +1,7 @@
-//! The built programs (`rt check report`, `rt check listing`), run as a user runs them, against the second rendering:
+//! The built programs (`target/bin`), run as a user runs them, against the second rendering:
 //! every byte of standard output. Standard error stays empty, the exit status is 0.
 
-use crate::{by_status, print, repository, scratch};
+use crate::{built, by_status, print, repository, scratch};
 use reference::generate::{edges, raw_bytes, source, valid_source, Random};
 use std::cell::Cell;
 use std::collections::BTreeSet;
@@ -25,8 +25,8 @@ struct Built {
 
 impl Built {
     fn new(name: &str) -> Built {
-        let program = repository().join("target/bin").join(name);
-        assert!(program.exists(), "target/bin/{name} is not built: rt check {name}");
+        let program = built(&repository(), name);
+        assert!(program.exists(), "{} is not built: rt check program_{name}", program.display());
         Built { program, input: scratch("input").join("source.x"), sources: Cell::new(0) }
     }
 

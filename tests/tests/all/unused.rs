@@ -383,10 +383,10 @@ fn unused_definitions_are_noticed() {
     let whole = texts();
     let list = read("tests/KEPT.md");
     let now: BTreeSet<String> = wrongly_there(&whole, &list).into_iter().collect();
-    let folder = "crates/word";
+    let folder = "crates/arm_word";
     let name = folder.trim_start_matches("crates/");
-    let (specs, other) = ("crates/word/specs/Word.antt", "crates/word/specs/Laws.antt");
-    let (code, proof) = ("crates/word/src/lib.rt", "crates/word/proofs/low_product/Proof.antt");
+    let (specs, other) = ("crates/arm_word/specs/Word.antt", "crates/arm_word/specs/WordLaws.antt");
+    let (code, proof) = ("crates/arm_word/src/lib.rt", "crates/arm_word/proofs/low_product/Proof.antt");
     let import = &*format!("use Rattle.{name}.specs.Word.{{made-up}}");
     let called = "fn made_up() -> u32 {\n    7\n}\n";
     // the additions, and which definitions nothing uses then
@@ -421,8 +421,12 @@ fn unused_definitions_are_noticed() {
         assert!(names.eq(want.iter().copied()), "{additions:?}: {wrong:?}");
         assert!(now.is_subset(&wrong), "{additions:?}");
     }
-    let not_needed =
-        ["word/Word` `add", "word/Word` `made-up", &format!("{name}::add"), &format!("{name}::made_up")];
+    let not_needed = [
+        "arm_word/Word` `add",
+        "arm_word/Word` `made-up",
+        &format!("{name}::add"),
+        &format!("{name}::made_up"),
+    ];
     for entry in not_needed {
         assert!(wrongly_there(&whole, &format!("{list}- `{entry}`: why\n")).len() > now.len(), "{entry}");
     }

@@ -4,8 +4,8 @@ use mathlib.Core.Path.{ap, _∙_}
 use mathlib.Core.List.{List}
 use Prim.Native.Nat.{ℕ}
 use denote.Ref.{now}
-use Rattle.exec.specs.declared.Machine.{Machine}
-use Rattle.machine.specs.Step.{stepOf}
+use Rattle.arm_state.specs.declared.Machine.{Machine}
+use Rattle.arm_machine.specs.Step.{stepOf}
 use Rattle.gutilamboy.specs.Calls.{left, steppedWords, ofStep}
 use borrow.Author.Needs.{needs}
 use Rattle.gutilamboy.proofs.gutilamboy_step.Statement.{statement}

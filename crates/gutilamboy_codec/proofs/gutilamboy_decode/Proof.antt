@@ -1,7 +1,7 @@
 -- `gutilamboy_codec::gutilamboy_decode` meets its contract: the answers are the definition's, test by test and call by call.
 -- Rests on the definitions that its contract cites; assumes nothing.
 use mathlib.Core.Path.{ap, _∙_}
-use Rattle.numbers.specs.Numbers.{decodedWords}
+use Rattle.gutilamboy_numbers.specs.Numbers.{decodedWords}
 use borrow.Author.Needs.{needs}
 use Rattle.gutilamboy_codec.proofs.gutilamboy_decode.Statement.{statement}
 use Rattle.gutilamboy_codec.proofs.gutilamboy_decode.Tie as tie

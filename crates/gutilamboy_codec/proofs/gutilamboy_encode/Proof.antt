@@ -1,8 +1,8 @@
 -- `gutilamboy_codec::gutilamboy_encode` meets its contract: the number's instruction, encoded, or the refusal where it has none.
 -- Rests on the definitions that its contract cites; assumes nothing.
 use mathlib.Core.Path.{sym, ap, _∙_}
-use Rattle.thumb.specs.declared.Decoded.{Decoded}
-use Rattle.numbers.specs.Numbers.{numberedEncoding, encodedWords}
+use Rattle.arm_encoding.specs.declared.Decoded.{Decoded}
+use Rattle.gutilamboy_numbers.specs.Numbers.{numberedEncoding, encodedWords}
 use borrow.Author.Needs.{needs}
 use Rattle.gutilamboy_codec.proofs.gutilamboy_encode.Statement.{statement}
 use Rattle.gutilamboy_codec.proofs.gutilamboy_encode.Tie as tie

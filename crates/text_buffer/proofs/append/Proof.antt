@@ -7,7 +7,7 @@ use native.Mathlib.Numerals.{add-one}
 use lib.ListN.{length, getD, drop, length-set, drop-of-length-le}
 use lib.Seq.{drop-cons}
 use Rattle.text_buffer.specs.Buffer.{placed}
-use Rattle.text_buffer.specs.Laws.{none, full, more}
+use Rattle.text_buffer.specs.BufferLaws.{none, full, more}
 use Rattle.text_buffer.proofs.append.Statement.{statement}
 use Rattle.text_buffer.proofs.append.Tie as tie
 

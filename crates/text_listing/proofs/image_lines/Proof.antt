@@ -4,13 +4,13 @@ use Prim.Native.Nat.{_-_, _≤_, _<_}
 use mathlib.Core.Path.{_≡_, refl, sym, ap, _∙_}
 use native.Mathlib.Omega.{arith}
 use lib.ListN.{length, drop}
-use Rattle.text.specs.Text.{written}
-use Rattle.disassembly.specs.Laws.{size-bounds}
-use Rattle.disassembly.specs.Listing.{text-from}
-use Rattle.disassembly.specs.ListingLaws.{text-end}
+use Rattle.text_lines.specs.Text.{written}
+use Rattle.text_disassembly.specs.LineReading.{size-bounds}
+use Rattle.text_disassembly.specs.ImageLines.{text-from}
+use Rattle.text_disassembly.specs.ImageLineLaws.{text-end}
 use Rattle.text_buffer.specs.Buffer.{placed}
-use Rattle.text_buffer.specs.Laws.{none, kept}
-use Rattle.text_listing.specs.Laws.{line-put}
+use Rattle.text_buffer.specs.BufferLaws.{none, kept}
+use Rattle.text_listing.specs.ListingParts.{line-put}
 use borrow.Author.Needs.{needs}
 use Rattle.text_listing.proofs.image_lines.Statement.{statement}
 use Rattle.text_listing.proofs.image_lines.Tie as tie

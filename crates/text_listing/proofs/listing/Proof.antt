@@ -2,9 +2,9 @@
 -- Assumes nothing.
 use mathlib.Core.Path.{ap, _∙_}
 use Rattle.text_buffer.specs.Buffer.{placed}
-use Rattle.text_buffer.specs.Laws.{front}
+use Rattle.text_buffer.specs.BufferLaws.{front}
 use Rattle.text_listing.specs.Listing.{listing-of}
-use Rattle.text_listing.specs.Laws.{refused-text, accepted-text}
+use Rattle.text_listing.specs.ListingParts.{refused-text, accepted-text}
 use borrow.Author.Needs.{needs}
 use Rattle.text_listing.proofs.listing.Statement.{statement}
 use Rattle.text_listing.proofs.listing.Tie as tie

@@ -1,4 +1,4 @@
--- `text_report::answer_lines` meets its contract: `text::summary` of the answer's seven numbers, in their order.
+-- `text_report::answer_lines` meets its contract: `text_lines::summary` of the answer's seven numbers, in their order.
 -- Assumes nothing.
 use borrow.Author.Needs.{needs}
 use Rattle.text_report.proofs.answer_lines.Statement.{statement}

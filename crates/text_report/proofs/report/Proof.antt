@@ -1,7 +1,7 @@
 -- `text_report::report` meets its contract: the lines are those of what the translation into the two arrays answered.
 -- Assumes nothing.
 use mathlib.Core.Path.{_∙_}
-use Rattle.text_report.specs.Laws.{reported}
+use Rattle.text_report.specs.ReportLaws.{reported}
 use borrow.Author.Needs.{needs}
 use Rattle.text_report.proofs.report.Statement.{statement}
 use Rattle.text_report.proofs.report.Tie as tie

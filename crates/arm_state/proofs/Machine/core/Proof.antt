@@ -1,0 +1,31 @@
+-- `arm_state::Machine::core` meets its contract: r0 to r7 are the eight elements of the list.
+-- Rests on the definitions that its contract cites; assumes nothing.
+use mathlib.Core.Path.{_≡_, sym, ap}
+use mathlib.Core.List.{List}
+use Prim.Native.Nat.{ℕ}
+use native.Mathlib.Omega.{arith}
+use lib.ListN.{length}
+use Rattle.arm_state.specs.MachineCoreLaws.{elements, elements-are}
+use Rattle.arm_state.specs.declared.Machine.{Machine}
+use borrow.Author.Needs.{needs}
+use Rattle.arm_state.proofs.Machine.core.Statement.{statement}
+use Rattle.arm_state.proofs.Machine.core.Tie as tie
+
+returns : tie.Need-returns
+unfolding elements
+returns c =
+    let m = c .before .args .self in
+    let g : length (m .regs) ≡ 8 = search needs in
+    ap (λ (r : List ℕ). record { regs = r; sp = m .sp; lr = m .lr; pc = m .pc; rs = m .rs }) (sym (elements-are 8 0 (m .regs) g))
+
+pub core-spec : {M : Type 1} → statement M
+core-spec = tie.close (tie.spec
+    (λ c. search needs)
+    (λ c. search needs)
+    (λ c. search needs)
+    (λ c. search needs)
+    (λ c. search needs)
+    (λ c. search needs)
+    (λ c. search needs)
+    (λ c. search needs)
+    returns)

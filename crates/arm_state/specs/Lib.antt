@@ -1,0 +1,7 @@
+-- The machine's state and its instructions.
+pub mod State
+pub mod Effects
+pub mod Lookup
+pub mod Outcome
+pub mod MachineCore
+pub mod MachineCoreLaws

@@ -1,3 +1,0 @@
--- What was read from standard input.
-pub mod Input
-pub mod Laws

@@ -1,0 +1,3 @@
+-- Instructions, decodings and states as words.
+pub mod Numbers
+pub mod NumberLaws

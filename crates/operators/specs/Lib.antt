@@ -1,2 +1,0 @@
--- An operator's number.
-pub mod Operators

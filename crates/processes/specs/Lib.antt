@@ -1,4 +1,0 @@
--- What the readers of processes promise, and the laws behind it.
-pub mod Forms
-pub mod Processes
-pub mod Lists

@@ -1,0 +1,3 @@
+-- What was read from standard input.
+pub mod Input
+pub mod InputLaws

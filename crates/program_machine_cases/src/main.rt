@@ -1,0 +1,118 @@
+// Document 01's encodings and short runs of the machine, written to standard output.
+use arm_encoding::Instr;
+use libc::STDOUT_FILENO;
+
+fn text(s: &[u8]) {
+    io::write_all(STDOUT_FILENO, s);
+}
+
+fn hex(n: u32, digits: usize) {
+    text(b" ");
+    io::print_hex(STDOUT_FILENO, n as u64, digits);
+}
+
+fn number(n: u64) {
+    text(b" ");
+    io::print_decimal(STDOUT_FILENO, n);
+}
+
+// A name and its halfwords, or 35.
+fn encoding(name: &[u8], i: Instr) {
+    text(name);
+    let e = arm_encoding::encode(i);
+    if e.status != 0 {
+        number(e.status as u64);
+    }
+    if e.count > 0 {
+        hex(e.first as u32, 4);
+    }
+    if e.count > 1 {
+        hex(e.second as u32, 4);
+    }
+    text(b"\n");
+}
+
+// Eight bytes of code, the lower byte of each halfword first.
+fn code_of(a: u16, b: u16, c: u16, d: u16) -> [u8; 8] {
+    [
+        (a % 256) as u8,
+        (a / 256) as u8,
+        (b % 256) as u8,
+        (b / 256) as u8,
+        (c % 256) as u8,
+        (c / 256) as u8,
+        (d % 256) as u8,
+        (d / 256) as u8,
+    ]
+}
+
+// A start with 1 declared word and depth 1, and a run: status, number and count, then r0, lr, pc and the first word of data.
+fn ran(code: &[u8], limit: u64) {
+    let mut memory = [7u32; 12];
+    let started = arm_machine::start(code, &memory, 1, 1);
+    let m = started.machine;
+    let answer = arm_machine::run(m, code, &mut memory, limit);
+    number(answer.status as u64);
+    number(answer.number as u64);
+    number(answer.count);
+    let after = answer.machine;
+    let r = after.regs;
+    hex(r[0], 8);
+    hex(after.lr, 8);
+    hex(after.pc, 8);
+    hex(memory[0], 8);
+    text(b"\n");
+}
+
+// A name, and the run of the first bytes of some code.
+fn case(name: &[u8], code: &[u8], length: usize, limit: u64) {
+    text(name);
+    if length <= code.len() {
+        ran(&code[..length], limit);
+    }
+}
+
+fn encodings() {
+    encoding(b"MOVI r0,5:", Instr::Movi(0, 5));
+    encoding(b"ADDR r0,r1,r2:", Instr::Addr(2, 1, 0));
+    encoding(b"SUBR r3,r4,r5:", Instr::Subr(5, 4, 3));
+    encoding(b"STRI r0 to r7 offset 4:", Instr::Stri(1, 7, 0));
+    encoding(b"SHRI r0,r0,31:", Instr::Shri(31, 0, 0));
+    encoding(b"SHRI r0,r0,32:", Instr::Shri(32, 0, 0));
+    encoding(b"SHRI r0,r0,0:", Instr::Shri(0, 0, 0));
+    encoding(b"BU to itself:", Instr::Bu(0xFFFF_FFFE));
+    encoding(b"BL to itself:", Instr::Bl(0xFFFF_FFFE));
+    encoding(b"BL by -2097152:", Instr::Bl(0xFFE0_0000));
+    encoding(b"BL by 2097152:", Instr::Bl(2097152));
+}
+
+fn runs() {
+    // MOVI r0,5; ADDI r0,3; STRI r0 to r7; SVC 0
+    let finish = code_of(0x2005, 0x3003, 0x6038, 0xDF00);
+    case(b"finish:", &finish, 8, 10);
+    case(b"limit 2:", &finish, 8, 2);
+    case(b"limit 0:", &finish, 8, 0);
+    case(b"no code:", &finish, 0, 10);
+    case(b"a byte short:", &finish, 7, 10);
+    // MOVI r1,2; LDRI r0 from r1
+    let misaligned = code_of(0x2102, 0x6808, 0xDF00, 0xDF00);
+    case(b"address 2:", &misaligned, 8, 10);
+    // MOVI r1,0; STRI r0 to r1
+    let into_code = code_of(0x2100, 0x6008, 0xDF00, 0xDF00);
+    case(b"store into code:", &into_code, 8, 10);
+    // LDRI r0 from r1, which is 0
+    let from_code = code_of(0x6808, 0xDF01, 0xABCD, 0x1234);
+    case(b"load from code:", &from_code, 8, 10);
+    // BL to the SVC 2 after it, and its first half alone
+    let call = code_of(0xF000, 0xF801, 0x46C0, 0xDF02);
+    case(b"BL:", &call, 8, 10);
+    case(b"half a BL:", &call, 2, 10);
+    // BL's second half alone
+    let alone = code_of(0xF801, 0xDF00, 0xDF00, 0xDF00);
+    case(b"not listed:", &alone, 8, 10);
+}
+
+fn main() {
+    encodings();
+    runs();
+}

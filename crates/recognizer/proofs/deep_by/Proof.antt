@@ -1,9 +1,0 @@
--- `recognizer::deep_by` meets its contract, by its tests.
-use Rattle.word.specs.Tests.{tests}
-use Rattle.recognizer.proofs.deep_by.Statement.{statement}
-use Rattle.recognizer.proofs.deep_by.Tie as tie
-
-pub deep-by-spec : {M : Type 1} → statement M
-deep-by-spec = tie.close (tie.spec
-    (λ c. search tests depth 20)
-    (λ c. search tests depth 20))

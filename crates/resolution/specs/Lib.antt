@@ -1,2 +1,0 @@
--- Resolving the raw rows in place, and judging the names in them.
-pub mod Walk

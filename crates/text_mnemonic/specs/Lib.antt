@@ -1,0 +1,4 @@
+-- An instruction as text: mnemonic and operands.
+pub mod Mnemonic
+pub mod MnemonicLaws
+pub mod MnemonicCases

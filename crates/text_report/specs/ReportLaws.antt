@@ -1,0 +1,28 @@
+-- The lines of what a translation into zeroed arrays of the report's lengths answers are the report, which fits in a line. Laws; assumes nothing.
+use mathlib.Core.Path.{_≡_, ap, _∙_}
+use mathlib.Core.List.{List}
+use Prim.Native.Nat.{ℕ, _≤_}
+use native.Mathlib.Omega.{arith}
+use lib.ListN.{length, length-take, length-replicate}
+use Rattle.text_lines.specs.LineLaws.{summary-fits}
+use Rattle.translate_source.specs.declared.Translation.{Translation}
+use Rattle.translate_source.specs.Translate.{Translated, left, zeros, translation}
+use Rattle.text_report.specs.Report.{table-words, code-bytes, answer-lines, report-of, report-limit}
+
+pub into-arrays : (source : List ℕ) (x : Translated) → x ≡ translation source (length (zeros table-words)) (length (zeros code-bytes)) → x ≡ translation source table-words code-bytes
+into-arrays source x h =
+    h
+    ∙ ap (λ (n : ℕ). translation source n (length (zeros code-bytes))) (length-replicate {A = ℕ} table-words 0)
+    ∙ ap (translation source table-words) (length-replicate {A = ℕ} code-bytes 0)
+
+pub reported : (source table code : List ℕ) (t : Translation) → left t table code ≡ translation source (length (zeros table-words)) (length (zeros code-bytes)) → answer-lines t ≡ report-of source
+unfolding report-of
+reported source table code t h = ap (λ (x : Translated). answer-lines (x .answer)) (into-arrays source (left t table code) h)
+
+-- the seven lines fit in a line
+pub report-fits : (source : List ℕ) → length (report-of source) ≤ report-limit
+unfolding report-of
+report-fits source =
+    let t = translation source table-words code-bytes .answer in
+    let fits = ap length (summary-fits (t .status) (t .place) (t .tokens) (t .rows) (t .«data») (t .depth) (t .code)) in
+    omega (arith, fits, length-take 128 (answer-lines t))

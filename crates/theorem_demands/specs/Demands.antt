@@ -1,0 +1,89 @@
+-- Demands 1, 2 and 3, from source bytes to machine calls: statements alone, over the definitions that the public calls meet by equation.
+-- `translate` meets `translation`; `start`, `step` and `run` meet `startOf`, `stepOf` and `runOf`; `encode` and `decode` meet `encodeOf` and `decodeOf`.
+use mathlib.Core.Path.{_≡_}
+use mathlib.Core.List.{List}
+use Prim.Native.Nat.{ℕ, _<_}
+use lib.ListN.{length, take}
+use Rattle.x_tokens.specs.TokenList.{Entry}
+use Rattle.x_grammar.specs.Grammar as grammar
+use Rattle.x_program.specs.Tree.{Program}
+use Rattle.x_names.specs.Resolve.{resolve}
+use Rattle.x_verdict.specs.Symbols.{text-of}
+use Rattle.x_verdict.specs.IsX.{IsX, Room}
+use Rattle.x_verdict.specs.Deserved.{Deserves, FirstDeserved, Numbered}
+use Rattle.translate_rules.specs.ImageCode.{image}
+use Rattle.translate_source.specs.Translate.{Translated, translation, zeros}
+use Rattle.arm_encoding.specs.Encoding.{encodeOf, decodeOf, whole}
+use Rattle.arm_encoding.specs.declared.Instr.{Instr}
+use Rattle.arm_encoding.specs.declared.Decoded.the-variants.{Known}
+use Rattle.arm_state.specs.declared.Machine.{Machine}
+use Rattle.arm_machine.specs.Step.{stepOf}
+use Rattle.theorem_simulation.specs.Demand3.{D, N, Lent, Demand3}
+
+-- ── demand 1: everything is answered ──
+
+-- a refusal: "It zeroes table and code buffer wholly and its counts are all 0"
+pub record Refused (source : List ℕ) (table code n p : ℕ) (t : Translated) : Type 0 where
+  pub status : t .answer .status ≡ n
+  pub place : t .answer .place ≡ p
+  -- the number is 1 to 14, the place a byte of the source or its length
+  pub numbered : Numbered source n p
+  pub table-zero : t .table ≡ zeros table
+  pub code-zero : t .code ≡ zeros code
+  pub no-tokens : t .answer .tokens ≡ 0
+  pub no-rows : t .answer .rows ≡ 0
+  pub no-data : t .answer .«data» ≡ 0
+  pub no-depth : t .answer .depth ≡ 0
+  pub no-code : t .answer .code ≡ 0
+
+-- "An instruction that faults changes no register and no word"; nor does an SVC or a refusal
+pub record Unchanged (code words : List ℕ) (m : Machine) : Type 0 where
+  pub machine : stepOf code words m .after .state .machine ≡ m
+  pub memory : stepOf code words m .after .words ≡ words
+
+pub record Demand1 : Type 0 where
+  -- "in document 01's order": what is deserved first is what is answered, and nothing else
+  pub refuses : (source : List ℕ) (table code n p : ℕ) → FirstDeserved source table code n p → Refused source table code n p (translation source table code)
+  pub refused-first : (source : List ℕ) (table code : ℕ) → 0 < translation source table code .answer .status
+      → FirstDeserved source table code (translation source table code .answer .status) (translation source table code .answer .place)
+  -- "A refusal is given in no other case"
+  pub accepts : (source : List ℕ) (table code : ℕ) → ((n p : ℕ) → Deserves source table code n p → ⊥) → translation source table code .answer .status ≡ 0
+  pub accepted-spared : (source : List ℕ) (table code : ℕ) → translation source table code .answer .status ≡ 0 → (n p : ℕ) → Deserves source table code n p → ⊥
+  pub faulted : (code words : List ℕ) (m : Machine) → 0 < stepOf code words m .after .state .status → Unchanged code words m
+
+-- ── demand 2: exactly X, exactly Arm ──
+
+-- X by grammar, names and limits, with room, as this program
+pub record XAs (source : List ℕ) (table code : ℕ) (p : Program) : Type 0 where
+  pub ts : List Entry
+  pub tree : grammar.Program
+  pub is-X : IsX source ts tree
+  pub room : Room (length ts) table code
+  pub resolved : p ≡ resolve (text-of source ts) tree
+
+-- a source that the translation accepted, as this program
+pub record Translates (source : List ℕ) (table code : ℕ) (p : Program) : Type 0 where
+  pub is-X : XAs source table code p
+  pub status : translation source table code .answer .status ≡ 0
+  pub place : translation source table code .answer .place ≡ 0
+  -- "The source's own numbers are those that start takes, D and N": the answer has them
+  pub data-words : translation source table code .answer .«data» ≡ D p
+  pub depth : translation source table code .answer .depth ≡ N p
+  -- "the image as code" is the first bytes of the code buffer, as many as the answer says
+  pub image-bytes : take (translation source table code .answer .code) (translation source table code .code) ≡ image p
+
+pub record Demand2 : Type 0 where
+  -- "With room, a source is accepted exactly if it is X by grammar, names and limits"; "Status 0, place 0 is accepted"
+  pub accepted-is-X : (source : List ℕ) (table code : ℕ) → translation source table code .answer .status ≡ 0 → (p : Program) × Translates source table code p
+  pub X-is-accepted : (source : List ℕ) (table code : ℕ) (p : Program) → XAs source table code p → Translates source table code p
+  -- "Each instruction is encoded and read back as Arm's manual says": the table is that of arm_encoding; both ways round it is the same
+  pub decoded : (i : Instr) → encodeOf i .status ≡ 0 → decodeOf (encodeOf i .first) (encodeOf i .second) ≡ Known i
+  pub encoded : (h s : ℕ) (i : Instr) → s < 65536 → decodeOf h s ≡ Known i → encodeOf i ≡ whole h s
+
+-- ── demand 3, and demand 2's ends: one claim over any list of calls ──
+
+pub record Demands : Type 0 where
+  pub one : Demand1
+  pub two : Demand2
+  -- any accepted source, any starting words, needed words <= memory <= 16,384 words, any list of calls
+  pub three : (source : List ℕ) (table code : ℕ) (p : Program) (memory : List ℕ) → Translates source table code p → Lent p memory → Demand3 p memory

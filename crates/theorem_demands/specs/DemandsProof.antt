@@ -1,0 +1,130 @@
+-- Demands 1, 2 and 3 proved from the layers' theorems. Assumes nothing.
+use mathlib.Core.Path.{_≡_, refl, sym, ap, subst, _∙_}
+use mathlib.Core.List.{List, _++_}
+use Prim.Native.Nat.{ℕ, _-_, _<_}
+use native.Mathlib.Omega.{arith}
+use lib.ListN.{length, take}
+use lib.Seq.{take-at}
+use Rattle.x_program.specs.Tree.{Program}
+use Rattle.x_verdict.specs.Deserved.{Deserves, FirstDeserved}
+use Rattle.x_verdict.specs.Front.{Outcome, refused, accepted, front}
+use Rattle.x_verdict.specs.VerdictExact as exact
+use Rattle.x_verdict.specs.VerdictExact.{accepts-X}
+use Rattle.x_verdict.specs.Refused.{accepted-sound, refusal}
+use Rattle.x_verdict.specs.RefusalOrder.{refused-is-first, first-is-refused, accepted-is-spared, spared-is-accepted}
+use Rattle.translate_rules.specs.ImageCode.{image}
+use Rattle.arm_encoding.specs.EncodingLaws.{decode-encode, encode-decode}
+use Rattle.arm_machine.specs.StepLaws.{step-kept}
+use Rattle.translate_source.specs.Translate.{translated, translation, zeros}
+use Rattle.translate_source.specs.TranslationRoom.{accepted-fits}
+use Rattle.theorem_simulation.specs.Demand3.{Lent, Demand3}
+use Rattle.theorem_simulation.specs.Demand3Proof as simulation
+use Rattle.theorem_demands.specs.Demands.{Refused, Demand1, Translates, XAs, Demand2, Demands}
+
+-- ── demand 1 ──
+module _ (source : List ℕ) (table code : ℕ) where
+  refuses : (n p : ℕ) → FirstDeserved source table code n p → Refused source table code n p (translation source table code)
+  unfolding translation
+  refuses n p f =
+      let e = first-is-refused source table code n p f in
+      subst (λ (o : Outcome). Refused source table code n p (translated table code o)) (sym e)
+      (record {
+        status = refl;
+        place = refl;
+        numbered = refusal source table code n p e;
+        table-zero = refl;
+        code-zero = refl;
+        no-tokens = refl;
+        no-rows = refl;
+        no-data = refl;
+        no-depth = refl;
+        no-code = refl;
+      })
+
+  refused-first : 0 < translation source table code .answer .status → FirstDeserved source table code (translation source table code .answer .status) (translation source table code .answer .place)
+  unfolding translation
+  refused-first h = by (front source table code) refl h
+    where
+      by : (o : Outcome) → front source table code ≡ o → 0 < translated table code o .answer .status
+          → FirstDeserved source table code (translated table code o .answer .status) (translated table code o .answer .place)
+      by (refused n p) e h = refused-is-first source table code n p e
+      by (accepted n p) e h = absurd (omega arith)
+
+  spared-accepted : ((n p : ℕ) → Deserves source table code n p → ⊥) → translation source table code .answer .status ≡ 0
+  unfolding translation
+  spared-accepted s = let a = spared-is-accepted source table code s in ap (λ (o : Outcome). translated table code o .answer .status) (a .2)
+
+  accepted-spared : translation source table code .answer .status ≡ 0 → (n p : ℕ) → Deserves source table code n p → ⊥
+  unfolding translation
+  accepted-spared h = by (front source table code) refl h
+    where
+      by : (o : Outcome) → front source table code ≡ o → translated table code o .answer .status ≡ 0 → (n p : ℕ) → Deserves source table code n p → ⊥
+      by (refused n p) e z = absurd (omega (arith, z, refusal source table code n p e .low))
+      by (accepted n p) e z = accepted-is-spared source table code n p e
+
+demand1 : Demand1
+demand1 = record {
+  refuses = refuses;
+  refused-first = refused-first;
+  accepts = spared-accepted;
+  accepted-spared = accepted-spared;
+  faulted = λ code words m h. let k = step-kept code words m h in record { machine = k .0; memory = k .1 };
+}
+
+-- ── demand 2 ──
+
+taken : (xs ys : List ℕ) → take (length xs) (xs ++ ys) ≡ xs
+taken xs ys = take-at xs ys (length xs) refl
+
+-- what the front end accepts is translated
+module _ (source : List ℕ) (table code n : ℕ) (p : Program) (e : front source table code ≡ accepted n p) where
+  is-X : XAs source table code p
+  is-X =
+      let a = exact.accepted-is-X source table code n p e in
+      record { ts = a .ts; tree = a .tree; is-X = a .is-X; room = a .room; resolved = a .program }
+
+  pub front-translates : Translates source table code p
+  unfolding translation
+  front-translates =
+      record {
+        is-X = is-X;
+        status = ap (λ (o : Outcome). translated table code o .answer .status) e;
+        place = ap (λ (o : Outcome). translated table code o .answer .place) e;
+        data-words = ap (λ (o : Outcome). translated table code o .answer .«data») e;
+        depth = ap (λ (o : Outcome). translated table code o .answer .depth) e;
+        image-bytes = ap (λ (o : Outcome). take (translated table code o .answer .code) (translated table code o .code)) e ∙ taken (image p) (zeros (code - length (image p)));
+      }
+
+-- what is X is accepted by the front end
+front-accepts : (source : List ℕ) (table code : ℕ) (p : Program) (x : XAs source table code p) → front source table code ≡ accepted (length (x .ts)) p
+front-accepts source table code p x = accepts-X source (x .ts) (x .tree) table code (x .is-X) (x .room) ∙ ap (accepted (length (x .ts))) (sym (x .resolved))
+
+accepted-is-X : (source : List ℕ) (table code : ℕ) → translation source table code .answer .status ≡ 0 → (p : Program) × Translates source table code p
+unfolding translation
+accepted-is-X source table code h = by (front source table code) refl h
+  where
+    by : (o : Outcome) → front source table code ≡ o → translated table code o .answer .status ≡ 0 → (p : Program) × Translates source table code p
+    by (refused n at) e z = absurd (omega (arith, z, refusal source table code n at e .low))
+    by (accepted n p) e z = (p, front-translates source table code n p e)
+
+demand2 : Demand2
+demand2 = record {
+  accepted-is-X = accepted-is-X;
+  X-is-accepted = λ source table code p x. front-translates source table code (length (x .ts)) p (front-accepts source table code p x);
+  decoded = decode-encode;
+  encoded = encode-decode;
+}
+
+-- ── demand 3 ──
+
+demand3 : (source : List ℕ) (table code : ℕ) (p : Program) (memory : List ℕ) → Translates source table code p → Lent p memory → Demand3 p memory
+demand3 source table code p memory t l =
+    let n = length (t .is-X .ts) in
+    let e = front-accepts source table code p (t .is-X) in
+    let s = accepted-sound source table code n p e in
+    let f = accepted-fits source table code n p e in
+    simulation.demand3 p s (omega (arith, f .small)) memory l
+
+-- THE THEOREM
+pub demands : Demands
+demands = record { one = demand1; two = demand2; three = demand3 }

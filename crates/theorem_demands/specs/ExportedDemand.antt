@@ -1,0 +1,67 @@
+-- Demand 3 at the C boundary: the 12 words of the state and the words of memory that each exported call leaves, for any list of these calls. Statement; rests on the exported calls' definitions.
+-- `gutilamboy_start`, `gutilamboy_step` and `gutilamboy_run` meet `startCall`, `stepCall` and `runCall` by equation.
+use mathlib.Core.Path.{_≡_}
+use mathlib.Core.Bool.{true}
+use mathlib.Core.List.{List, [], _∷_}
+use Prim.Native.Nat.{ℕ, _+_, _*_, _≤_, _<_}
+use lib.ListN.{length, getD, take, drop}
+use Rattle.x_program.specs.Tree.{Program}
+use Rattle.x_meaning.specs.SourceRun.{moves, begin, ends-with}
+use Rattle.translate_rules.specs.ImageCode.{image}
+use Rattle.arm_state.specs.State.{base}
+use Rattle.gutilamboy.specs.Calls.{startLeft, startCall, Left, stepCall, runCall}
+use Rattle.theorem_simulation.specs.Demand3.{Each, D, N, needs, Lent, Call, step, run, Ended}
+use Rattle.theorem_demands.specs.Demands.{Translates}
+
+-- one exported call after another, all with the same code: each gets the state and the memory that the one before left
+abbrev pub exported : List ℕ → Call → List ℕ → List ℕ → Left
+exported code step memory state = stepCall code memory state
+exported code (run limit) memory state = runCall limit code memory state
+
+unfoldable pub exported-calls : List ℕ → List Call → List ℕ → List ℕ → List Left
+exported-calls code [] memory state = []
+exported-calls code (k ∷ ks) memory state = let a = exported code k memory state in a ∷ exported-calls code ks (a .memory) (a .state)
+
+-- the words that start leaves: r0 to r7, sp, lr, pc, rs
+abbrev pub first-words : Program → List ℕ
+first-words p = 0 ∷ 0 ∷ 0 ∷ 0 ∷ 0 ∷ 0 ∷ 0 ∷ base ∷ (base + 4 * needs p) ∷ 0 ∷ 0 ∷ 0 ∷ []
+
+-- in the words that a call left: its status and number, and sp
+abbrev pub status-in : Left → ℕ
+status-in l = getD (l .out) 0 0
+
+abbrev pub number-in : Left → ℕ
+number-in l = getD (l .out) 1 0
+
+abbrev pub sp-in : Left → ℕ
+sp-in l = getD (l .state) 8 0
+
+-- what holds of each call
+pub record InOrder (p : Program) (memory : List ℕ) (l : Left) : Type 0 where
+  -- nothing is refused, nothing faults
+  pub answered : status-in l < 2
+  pub state-words : length (l .state) ≡ 12
+  -- the stack stays in its words
+  pub sp-low : base + 4 * D p ≤ sp-in l
+  pub sp-high : sp-in l ≤ base + 4 * needs p
+  pub all-words : length (l .memory) ≡ length memory
+  -- the words past the needed ones are those that were lent
+  pub untouched : drop (needs p) (l .memory) ≡ drop (needs p) memory
+  -- SVC n, only if the source's run ends so, with the same D words
+  pub ended : status-in l ≡ 1 → Ended p memory (l .memory) (number-in l)
+
+-- a run that ended by SVC n with these D words
+pub record EndsSo (p : Program) (n : ℕ) (words : List ℕ) (l : Left) : Type 0 where
+  pub by-svc : status-in l ≡ 1
+  pub number : number-in l ≡ n
+  pub same-words : take (D p) (l .memory) ≡ words
+
+pub record AtBoundary (p : Program) (memory : List ℕ) : Type 0 where
+  pub starts : startCall (image p) memory (D p) (N p) ≡ startLeft 0 (first-words p)
+  pub each : (ks : List Call) → Each (InOrder p memory) (exported-calls (image p) ks memory (first-words p))
+  pub ends : (j n : ℕ) → ends-with (moves j (begin p memory) .end) n ≡ true
+      → (l : ℕ) × ((limit : ℕ) → l ≤ limit → EndsSo p n (moves j (begin p memory) .words) (runCall limit (image p) memory (first-words p)))
+
+-- any accepted source, any starting words, needed words <= memory <= 16,384 words, any list of exported calls
+abbrev pub Exported : Type 0
+Exported = (source : List ℕ) (table code : ℕ) (p : Program) (memory : List ℕ) → Translates source table code p → Lent p memory → AtBoundary p memory

@@ -1,0 +1,84 @@
+-- Demand 3 at the C boundary, proved: an exported call does to the words of a state what the call does to the state. Rests on DemandsProof and on numbers' laws; assumes nothing.
+use mathlib.Core.Path.{_≡_, refl, ap, subst, _∙_}
+use mathlib.Core.List.{List, [], _∷_}
+use Prim.Native.Nat.{ℕ}
+use native.Mathlib.Omega.{arith}
+use lib.ListN.{length}
+use Rattle.x_program.specs.Tree.{Program}
+use Rattle.translate_rules.specs.ImageCode.{image}
+use Rattle.arm_state.specs.State.{base, freshOf}
+use Rattle.arm_state.specs.declared.Machine.{Machine}
+use Rattle.x_meaning.specs.SourceRun.{moves, begin}
+use Rattle.arm_machine.specs.MachineRun.{runOf}
+use Rattle.arm_machine.specs.StepLaws.{step-length, step-registers}
+use Rattle.arm_machine.specs.Iterations.{run-length, run-registers}
+use Rattle.arm_machine.specs.declared.Started.{Started}
+use Rattle.gutilamboy_numbers.specs.Numbers.{stateWords}
+use Rattle.gutilamboy_numbers.specs.NumberLaws.{state-back}
+use Rattle.gutilamboy.specs.Calls.{ofStart, runCall}
+use Rattle.theorem_simulation.specs.Demand3.{Each, D, N, Lent, Call, step, run, calls, started, Answered, EndsBy, Demand3}
+use Rattle.theorem_demands.specs.DemandsProof.{demands}
+use Rattle.theorem_demands.specs.ExportedDemand.{exported-calls, first-words, InOrder, EndsSo, AtBoundary, Exported}
+
+module _ (p : Program) (memory : List ℕ) (lent : Lent p memory) (d : Demand3 p memory) where
+  -- a list of exported calls from a state's words, beside the same calls from the state
+  each-left : (ks : List Call) (w : List ℕ) (m : Machine) → length (m .regs) ≡ 8 → length w ≡ length memory → Each (Answered p memory) (calls (image p) ks w m)
+      → Each (InOrder p memory) (exported-calls (image p) ks w (stateWords m))
+  unfolding calls exported-calls
+  each-left [] w m r l a = tt
+  each-left (step ∷ ks) w m r l a =
+      rw (state-back m r) (
+        record {
+          answered = a .0 .not-refused;
+          state-words = refl;
+          sp-low = a .0 .kept .sp-low;
+          sp-high = a .0 .kept .sp-high;
+          all-words = step-length (image p) w m ∙ l;
+          untouched = a .0 .kept .untouched;
+          ended = a .0 .ended;
+        },
+        each-left ks _ _ (step-registers (image p) w m ∙ r) (step-length (image p) w m ∙ l) (a .1),
+      )
+  each-left (run n ∷ ks) w m r l a =
+      rw (state-back m r) (
+        record {
+          answered = a .0 .not-refused;
+          state-words = refl;
+          sp-low = a .0 .kept .sp-low;
+          sp-high = a .0 .kept .sp-high;
+          all-words = run-length n (image p) w m ∙ l;
+          untouched = a .0 .kept .untouched;
+          ended = a .0 .ended;
+        },
+        each-left ks _ _ (run-registers n (image p) w m ∙ r) (run-length n (image p) w m ∙ l) (a .1),
+      )
+
+  started-is : started p memory ≡ freshOf (D p) (N p)
+  started-is = ap (λ (s : Started). s .machine) (d .starts)
+
+  fresh-words : stateWords (freshOf (D p) (N p)) ≡ first-words p
+  unfolding freshOf
+  fresh-words = ap (λ (sp : ℕ). 0 ∷ 0 ∷ 0 ∷ 0 ∷ 0 ∷ 0 ∷ 0 ∷ base ∷ sp ∷ 0 ∷ 0 ∷ 0 ∷ []) (omega (arith, lent .enough, lent .few))
+
+  started-words : stateWords (started p memory) ≡ first-words p
+  started-words = ap stateWords started-is ∙ fresh-words
+
+  eight : length (started p memory .regs) ≡ 8
+  unfolding freshOf
+  eight = ap (λ (m : Machine). length (m .regs)) started-is
+
+  run-ends : (limit n : ℕ) (words : List ℕ) → EndsBy p n words (runOf limit (image p) memory (started p memory)) → EndsSo p n words (runCall limit (image p) memory (first-words p))
+  run-ends limit n words e =
+      subst (λ (s : List ℕ). EndsSo p n words (runCall limit (image p) memory s)) started-words
+      (rw (state-back (started p memory) eight) (record { by-svc = e .by-svc; number = e .number; same-words = e .same-words }))
+
+  at-boundary : AtBoundary p memory
+  at-boundary = record {
+    starts = ap ofStart (d .starts) ∙ ap (λ (s : List ℕ). record { status = 0; state = s }) fresh-words;
+    each = λ ks. subst (λ (s : List ℕ). Each (InOrder p memory) (exported-calls (image p) ks memory s)) started-words (each-left ks memory (started p memory) eight refl (d .answered ks));
+    ends = λ j n e. let l = d .ends j n e in (l .0, λ limit h. run-ends limit n (moves j (begin p memory) .words) (l .1 limit h));
+  }
+
+-- THE corollary
+pub exported : Exported
+exported source table code p memory t l = at-boundary p memory l (demands .three source table code p memory t l)

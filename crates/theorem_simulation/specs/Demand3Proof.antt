@@ -1,0 +1,322 @@
+-- Demands 2 and 3, proved: for every sound program and any lent words. The theorem is `demand3`; it rests on Begin, Concrete and Generic.
+-- The instructions that a list of calls tries are a chain of points, each one step after the one before; at every point of it the simulation sees what the statement says.
+use mathlib.Core.Path.{_≡_, refl, sym, ap, subst, _∙_}
+use mathlib.Core.Bool.{true}
+use mathlib.Core.Logic.{_⊎_, inl, inr, ⊎-elim}
+use mathlib.Core.List.{List, [], _∷_, _++_, append-assoc, append-nil}
+use Prim.Native.Nat.{ℕ, zero, suc, _+_, _≤_, _<_}
+use native.Mathlib.Omega.{arith}
+use lib.ListN.{getD, length, take, drop, length-drop}
+use lib.Seq.{getD-take, getD-drop, length-take-le, ext-getD}
+use borrow.Author.Tests.{eq-eqb, ne-eqb, le-ltb, le-leb, eqb-true}
+use Rattle.arm_word.specs.Access.{Access}
+use Rattle.x_program.specs.Tree.{Program}
+use Rattle.x_meaning.specs.SourceRun.{End, going, finish, stopped, bad-subscript, State, move, moves, begin, ends-with}
+use Rattle.translate_rules.specs.ImageCode.{image}
+use Rattle.arm_state.specs.State.{freshOf}
+use Rattle.arm_state.specs.Effects.{Effect, ended}
+use Rattle.arm_state.specs.declared.Machine.{Machine}
+use Rattle.arm_machine.specs.Step.{step-count, refusalOf, stepOf}
+use Rattle.arm_machine.specs.MachineRun.{RunAfter, run-after, ran, runFrom, runOf}
+use Rattle.arm_machine.specs.Start.{startRefusal, startOf}
+use Rattle.arm_machine.specs.Trace.{listed}
+use Rattle.arm_machine.specs.declared.Started.{Started}
+use Rattle.x_program.specs.Sound.{Sound}
+use Rattle.theorem_simulation.specs.Demand3.{Each, D, N, needs, Lent, Call, step, run, tried, Called, call, calls, all-tried, trace-of, started, called, Kept, Ended, Orderly, Answered, EndsBy, Demand3}
+use Rattle.theorem_simulation.specs.Generic.{times, times-stays, sees, reaches}
+use Rattle.theorem_simulation.specs.Straight.{address}
+use Rattle.theorem_simulation.specs.Relation.{Setting, data-of}
+use Rattle.theorem_simulation.specs.Block.{state-size}
+use Rattle.theorem_simulation.specs.Concrete.{Point, effect-at, step-point, Completes, Halts, Seen, Simulated, seen-back, simulates-point, ended-point, simulated-trace}
+use Rattle.theorem_simulation.specs.Begin.{setting, first-point, limits, first-simulated}
+
+-- the source's moves, as the generic part counts them
+moves-times : (j : ℕ) (s : State) → times move j s ≡ moves j s
+moves-times zero s = refl
+moves-times (suc j) s = moves-times j (move s)
+
+-- an end has one number
+one-number : (e : End) (a b : ℕ) → ends-with e a ≡ true → ends-with e b ≡ true → a ≡ b
+one-number going a b x y = let z : _≡_ {A = ℕ} 0 1 = cc (x) in absurd (omega arith)
+one-number finish a b x y = eqb-true a 0 x ∙ sym (eqb-true b 0 y)
+one-number stopped a b x y = eqb-true a 1 x ∙ sym (eqb-true b 1 y)
+one-number bad-subscript a b x y = eqb-true a 2 x ∙ sym (eqb-true b 2 y)
+
+-- effects one after another, from one point to another
+data Chain (E : Setting) : Point → List Effect → Point → Type 0 where
+  none : {x : Point} → Chain E x [] x
+  also : {x y : Point} {es : List Effect} → Chain E (step-point E x) es y → Chain E x (effect-at E x ∷ es) y
+
+chain-append : {E : Setting} {x y z : Point} {es fs : List Effect} → Chain E x es y → Chain E y fs z → Chain E x (es ++ fs) z
+chain-append none d = d
+chain-append (also c) d = also (chain-append c d)
+
+module _ (p : Program) (sound : Sound p) (short : length (image p) ≤ 65536) (memory : List ℕ) (lent : Lent p memory) where
+  abbrev E : Setting
+  E = setting p
+
+  -- at x and ever after the simulation sees what it should
+  abbrev Sees : Point → Type 0
+  Sees x = (i : ℕ) → Seen E memory (begin p memory) (times (step-point E) i x)
+
+  later : (x : Point) → Sees x → Sees (step-point E x)
+  later x v i = v (suc i)
+
+  needs-is : data-of E + E .stack ≡ needs p
+  needs-is = omega arith
+
+  -- ── one instruction ──
+
+  not-refused : (w : List ℕ) → length w ≡ length memory → refusalOf (image p) w ≡ 0
+  unfolding refusalOf
+  not-refused w e = rw (le-ltb 65536 (length (image p)) (short), le-ltb 16384 (length w) (omega (arith, lent .few)))
+
+  step-is : (x : Point) → Sees x → stepOf (image p) (x .words) (x .state) ≡ effect-at E x
+  unfolding stepOf
+  step-is x v = rw (eq-eqb (refusalOf (image p) (x .words)) 0 (not-refused (x .words) (v 0 .all)))
+
+  status-of : (x : Point) → Sees x → (effect-at E x .after .state .status ≡ 0) ⊎ (effect-at E x .after .state .status ≡ 1)
+  status-of x v = ⊎-elim (λ c. inl (c .status)) (λ h. inr (ap (λ (e : Effect). e .after .state .status) (h .1 .effect))) (v 0 .does)
+
+  -- a list of words, told from the needed words on
+  same-rest : (w : List ℕ) → length w ≡ length memory → ((i : ℕ) → data-of E + E .stack ≤ i → getD w i 0 ≡ getD memory i 0) → drop (needs p) w ≡ drop (needs p) memory
+  same-rest w e h =
+      ext-getD 0 (drop (needs p) w) (drop (needs p) memory) (length-drop (needs p) w ∙ rw e (sym (length-drop (needs p) memory)))
+      (λ i b. getD-drop (needs p) w i 0 ∙ h (needs p + i) (omega arith) ∙ sym (getD-drop (needs p) memory i 0))
+
+  same-data : (w d : List ℕ) → length w ≡ length memory → length d ≡ D p → ((i : ℕ) → i < D p → getD w i 0 ≡ getD d i 0) → take (D p) w ≡ d
+  same-data w d e l h =
+      let t : length (take (D p) w) ≡ D p = length-take-le (D p) w (omega (arith, lent .enough)) in
+      ext-getD 0 (take (D p) w) d (t ∙ sym l) (λ i b. let b′ : i < D p = omega arith in getD-take (D p) w i 0 b′ ∙ h i b′)
+
+  kept : (x : Point) → Sees x → Kept p memory (x .words) (x .state)
+  unfolding address
+  kept x v = record { sp-low = v 0 .sp-low; sp-high = omega (arith, v 0 .sp-high); untouched = same-rest (x .words) (v 0 .all) (v 0 .untouched) }
+
+  ended-here : (x : Point) → Sees x → effect-at E x .after .state .status ≡ 1 → Ended p memory (effect-at E x .after .words) (effect-at E x .after .state .number)
+  ended-here x v e = ⊎-elim (λ c. absurd (omega (arith, c .status))) (λ h. by (h .0) (h .1)) (v 0 .does)
+    where
+      by : (j : ℕ) → Halts E (moves j (begin p memory)) x → Ended p memory (effect-at E x .after .words) (effect-at E x .after .state .number)
+      by j h = rw (h .effect) (record { j = j; ends = h .ends; same-words = same-data (x .words) _ (v 0 .all) (h .declared) (h .same) })
+
+  orderly : (x : Point) → Sees x → Orderly p memory (effect-at E x)
+  orderly x v =
+      record {
+        no-fault = ⊎-elim (λ e. omega arith) (λ e. omega arith) (status-of x v);
+        kept = kept (step-point E x) (later x v);
+        within = ⊎-elim (λ c. rw needs-is at (c .within)) (λ h. rw (h .1 .effect) tt) (v 0 .does);
+        ended = ended-here x v;
+      }
+
+  -- ── chains ──
+
+  chain-orderly : {x y : Point} {es : List Effect} → Chain E x es y → Sees x → Each (Orderly p memory) es
+  chain-orderly none v = tt
+  chain-orderly (also {x = x} c) v = (orderly x v, chain-orderly c (later x v))
+
+  -- after each instruction of a chain the trace is that of a point
+  chain-trace : {x y : Point} {es : List Effect} → Chain E x es y → (i : ℕ) → (n : ℕ) × (x .trace ++ trace-of p (take i es) ≡ times (step-point E) n x .trace)
+  chain-trace {x} none zero = (0, append-nil (x .trace))
+  chain-trace {x} none (suc i) = (0, append-nil (x .trace))
+  chain-trace {x} (also c) zero = (0, append-nil (x .trace))
+  chain-trace {x} (also c) (suc i) = let r = chain-trace c i in (suc (r .0), sym (append-assoc (x .trace) _ _) ∙ r .1)
+
+  chain-sees : {x y : Point} {es : List Effect} → Chain E x es y → Sees x → Sees y
+  chain-sees none v = v
+  chain-sees (also {x = x} c) v = chain-sees c (later x v)
+
+  -- ── a run ──
+
+  module _ (x : Point) (v : Sees x) (n : ℕ) where
+    tried-more : effect-at E x .after .state .status ≡ 0 → tried (suc n) (image p) (x .words) (x .state) ≡ effect-at E x ∷ tried n (image p) (step-point E x .words) (step-point E x .state)
+    unfolding tried
+    tried-more e = rw (step-is x v, eq-eqb _ 0 e)
+
+    tried-last : effect-at E x .after .state .status ≡ 1 → tried (suc n) (image p) (x .words) (x .state) ≡ effect-at E x ∷ []
+    unfolding tried
+    tried-last e = rw (step-is x v, ne-eqb (effect-at E x .after .state .status) 0 (omega arith))
+
+    run-more : (k : ℕ) → effect-at E x .after .state .status ≡ 0 → runFrom (suc n) k (image p) (x .words) (x .state) ≡ runFrom n (k + 1) (image p) (step-point E x .words) (step-point E x .state)
+    unfolding runFrom
+    run-more k e = rw e
+
+    run-last : (k : ℕ) → effect-at E x .after .state .status ≡ 1
+        → runFrom (suc n) k (image p) (x .words) (x .state) ≡ run-after (ran (effect-at E x .after .state) (k + 1)) (effect-at E x .after .words)
+    unfolding runFrom
+    run-last k e = let s = effect-at E x .after .state .status in rw (ne-eqb s 0 (omega arith), le-leb s 1 (omega arith))
+
+  tried-none : (w : List ℕ) (m : Machine) → tried 0 (image p) w m ≡ []
+  unfolding tried
+  tried-none w m = refl
+
+  tried-one : (x : Point) → Sees x → tried 1 (image p) (x .words) (x .state) ≡ effect-at E x ∷ []
+  tried-one x v = ⊎-elim (λ e. tried-more x v 0 e ∙ rw tried-none) (tried-last x v 0) (status-of x v)
+
+  -- what a run comes to, r, and the instructions that it tried
+  record Runs (x : Point) (k : ℕ) (es : List Effect) (r : RunAfter) : Type 0 where
+    last : Point
+    chain : Chain E x es last
+    words : r .words ≡ last .words
+    state : r .state .machine ≡ last .state
+    status : r .state .status < 2
+    count : r .state .count ≡ k + length es
+    ended : r .state .status ≡ 1 → Ended p memory (r .words) (r .state .number)
+
+  runs : (n k : ℕ) (x : Point) → Sees x → Runs x k (tried n (image p) (x .words) (x .state)) (runFrom n k (image p) (x .words) (x .state))
+  unfolding runFrom
+  runs zero k x v = rw tried-none (record { last = x; chain = none; words = refl; state = refl; status = omega arith; count = omega arith; ended = λ e. absurd (omega (arith, e)) })
+  runs (suc n) k x v = by (status-of x v) (runs n (k + 1) (step-point E x) (later x v))
+    where
+      by : (effect-at E x .after .state .status ≡ 0) ⊎ (effect-at E x .after .state .status ≡ 1)
+          → Runs (step-point E x) (k + 1) (tried n (image p) (step-point E x .words) (step-point E x .state)) (runFrom n (k + 1) (image p) (step-point E x .words) (step-point E x .state))
+          → Runs x k (tried (suc n) (image p) (x .words) (x .state)) (runFrom (suc n) k (image p) (x .words) (x .state))
+      by (inl e) r =
+          rw (tried-more x v n e, run-more x v n k e)
+          (record { last = r .last; chain = also (r .chain); words = r .words; state = r .state; status = r .status; count = r .count ∙ omega arith; ended = r .ended })
+      by (inr e) r =
+          rw (tried-last x v n e, run-last x v n k e)
+          (record { last = step-point E x; chain = also none; words = refl; state = refl; status = omega arith; count = omega arith; ended = ended-here x v })
+
+  run-is : (n : ℕ) (x : Point) → Sees x → runOf n (image p) (x .words) (x .state) ≡ runFrom n 0 (image p) (x .words) (x .state)
+  unfolding runOf
+  run-is n x v = rw (eq-eqb (refusalOf (image p) (x .words)) 0 (not-refused (x .words) (v 0 .all)))
+
+  -- ── lists of calls ──
+
+  -- what a list of calls comes to
+  record Lists (x : Point) (made : List Called) : Type 0 where
+    last : Point
+    chain : Chain E x (all-tried made) last
+    answered : Each (Answered p memory) made
+
+  -- one call before others
+  before : (x : Point) (a : Called) (more : List Called) (y : Point) → Chain E x (a .tries) y → Answered p memory a → Lists y more → Lists x (a ∷ more)
+  before x a more y c ans l = record { last = l .last; chain = chain-append c (l .chain); answered = (ans, l .answered) }
+
+  one-counted : (x : Point) → Sees x → step-count (effect-at E x .after .state .status) ≡ 1
+  one-counted x v = ⊎-elim (λ e. rw e) (λ e. rw e) (status-of x v)
+
+  lists : (ks : List Call) (x : Point) → Sees x → Lists x (calls (image p) ks (x .words) (x .state))
+  unfolding calls
+  lists [] x v = record { last = x; chain = none; answered = tt }
+  lists (step ∷ ks) x v =
+      let a = call (image p) step (x .words) (x .state) in
+      let e = step-is x v in
+      let l = lists ks (step-point E x) (later x v) in
+      let one = tried-one x v in
+      before x a _ (step-point E x) (rw one (also none))
+      (record { not-refused = rw e (orderly x v .no-fault); counted = rw (one, e) (one-counted x v); kept = rw e (orderly x v .kept); ended = rw e (ended-here x v) }) (rw e l)
+  lists (run n ∷ ks) x v =
+      let a = call (image p) (run n) (x .words) (x .state) in
+      let e = run-is n x v in
+      let r = runs n 0 x v in
+      let l = lists ks (r .last) (chain-sees (r .chain) v) in
+      before x a _ (r .last) (r .chain)
+      (record
+      { not-refused = rw e (r .status); counted = rw e (r .count ∙ omega arith); kept = rw (e, r .words, r .state) (kept (r .last) (chain-sees (r .chain) v)); ended = rw e (r .ended) })
+      (rw (e, r .words, r .state) l)
+
+  -- ── for every number of moves ──
+
+  halts-stays : (s : State) (x : Point) → Halts E s x → step-point E x ≡ x
+  unfolding listed
+  halts-stays s x h = rw (h .effect) (ap (λ (t : List Access). record { state = x .state; words = x .words; trace = t }) (append-nil (x .trace)))
+
+  -- the trace of n instructions is that of the point they come to
+  tried-trace : (n : ℕ) (x : Point) → Sees x → x .trace ++ trace-of p (tried n (image p) (x .words) (x .state)) ≡ times (step-point E) n x .trace
+  tried-trace zero x v = rw tried-none (append-nil (x .trace))
+  tried-trace (suc n) x v = by (v 0 .does) (tried-trace n (step-point E x) (later x v))
+    where
+      by : Completes E x ⊎ ((j : ℕ) × Halts E (moves j (begin p memory)) x)
+          → step-point E x .trace ++ trace-of p (tried n (image p) (step-point E x .words) (step-point E x .state)) ≡ times (step-point E) n (step-point E x) .trace
+          → x .trace ++ trace-of p (tried (suc n) (image p) (x .words) (x .state)) ≡ times (step-point E) n (step-point E x) .trace
+      by (inl c) ih = rw (tried-more x v n (c .status)) (sym (append-assoc (x .trace) _ _) ∙ ih)
+      by (inr h) ih =
+          let s = halts-stays _ x (h .1) in
+          rw (tried-last x v n (ap (λ (e : Effect). e .after .state .status) (h .1 .effect)), times-stays (step-point E) n (step-point E x) (ap (step-point E) s ∙ refl))
+          (sym (append-assoc (x .trace) _ []) ∙ append-nil _)
+
+  -- ── ends ──
+
+  -- an SVC with number c at a point, for the source's state s
+  abbrev At : State → ℕ → Point → Type 0
+  At s c x = (h : Halts E s x) × (h .number ≡ c)
+
+  run-halts : (x : Point) → Sees x → (s : State) (c : ℕ) → At s c x → (l k : ℕ) → EndsBy p c (s .words) (runFrom (suc l) k (image p) (x .words) (x .state))
+  run-halts x v s c (h, e) l k =
+      rw (run-last x v l k (ap (λ (e : Effect). e .after .state .status) (h .effect)), h .effect)
+      (record { by-svc = refl; number = e; same-words = same-data (x .words) (s .words) (v 0 .all) (h .declared) (h .same) })
+
+  -- where n steps come to an SVC, every run with a limit above n ends by it
+  run-ends : (n : ℕ) (x : Point) → Sees x → (s : State) (c : ℕ) → At s c (times (step-point E) n x) → (limit k : ℕ) → n < limit
+      → EndsBy p c (s .words) (runFrom limit k (image p) (x .words) (x .state))
+  run-ends n x v s c h zero k b = absurd (omega arith)
+  run-ends zero x v s c h (suc l) k b = run-halts x v s c h l k
+  run-ends (suc n) x v s c h (suc l) k b = by (v 0 .does) (run-ends n (step-point E x) (later x v) s c h l (k + 1) (omega arith))
+    where
+      by : Completes E x ⊎ ((j : ℕ) × Halts E (moves j (begin p memory)) x)
+          → EndsBy p c (s .words) (runFrom l (k + 1) (image p) (step-point E x .words) (step-point E x .state))
+          → EndsBy p c (s .words) (runFrom (suc l) k (image p) (x .words) (x .state))
+      by (inl g) ih = rw (run-more x v l k (g .status)) ih
+      by (inr g) ih = run-halts x v s c (subst (At s c) (times-stays (step-point E) (suc n) x (halts-stays _ x (g .1))) h) l k
+
+  -- ── from the start ──
+
+  start-is : startOf (image p) memory (D p) (N p) ≡ record { status = 0; machine = freshOf (D p) (N p) }
+  unfolding startOf startRefusal
+  start-is =
+      rw (eq-eqb (refusalOf (image p) memory) 0 (not-refused memory refl), le-ltb 8192 (D p) (sound .small), le-ltb 32 (N p) (sound .shallow), le-ltb (length memory) (needs p) (lent .enough))
+
+  started-is : started p memory ≡ freshOf (D p) (N p)
+  started-is = ap (λ (s : Started). s .machine) start-is
+
+  seen : Sees (first-point p memory)
+  seen i =
+      sees move (step-point E) state-size (Simulated E memory) (Seen E memory) (seen-back E memory) (simulates-point E (limits p sound short memory lent) memory) i (begin p memory)
+      (first-point p memory) (first-simulated p sound short memory lent)
+
+  reached : (j : ℕ) → (n : ℕ) × Simulated E memory (moves j (begin p memory)) (times (step-point E) n (first-point p memory))
+  reached j =
+      let r =
+      reaches move (step-point E) state-size (Simulated E memory) (Seen E memory) (seen-back E memory) (simulates-point E (limits p sound short memory lent) memory) j (begin p memory)
+      (first-point p memory) (first-simulated p sound short memory lent) in
+      (r .0, rw moves-times at (r .1))
+
+  all-lists : (ks : List Call) → Lists (first-point p memory) (called p memory ks)
+  all-lists ks = subst (λ (m : Machine). Lists (first-point p memory) (calls (image p) ks memory m)) (sym started-is) (lists ks (first-point p memory) seen)
+
+  -- THE theorem: demand 3, with demand 2's ends
+  pub demand3 : Demand3 p memory
+  demand3 = record {
+    starts = start-is;
+    answered = λ ks. all-lists ks .answered;
+    each = λ ks. chain-orderly (all-lists ks .chain) seen;
+    sees = λ ks i. by-sight ks i (chain-trace (all-lists ks .chain) i);
+    reaches = λ j. by-reach j (reached j);
+    ends = λ j n e. by-end j n e (reached j);
+  }
+    where
+      by-sight : (ks : List Call) (i : ℕ) → (n : ℕ) × ([] ++ trace-of p (take i (all-tried (called p memory ks))) ≡ times (step-point E) n (first-point p memory) .trace)
+          → (j : ℕ) × (trace-of p (take i (all-tried (called p memory ks))) ≡ moves j (begin p memory) .trace)
+      by-sight ks i (n, e) = let s = seen n in (s .j, e ∙ s .list)
+
+      by-reach : (j : ℕ) → (n : ℕ) × Simulated E memory (moves j (begin p memory)) (times (step-point E) n (first-point p memory))
+          → (n : ℕ) × (trace-of p (tried n (image p) memory (started p memory)) ≡ moves j (begin p memory) .trace)
+      by-reach j (n, r) = (
+        n,
+        ap (λ (m : Machine). trace-of p (tried n (image p) memory m)) started-is
+            ∙ tried-trace n (first-point p memory) seen
+            ∙ simulated-trace E (limits p sound short memory lent) memory (moves j (begin p memory)) _ r,
+      )
+
+      by-end : (j n : ℕ) → ends-with (moves j (begin p memory) .end) n ≡ true → (i : ℕ) × Simulated E memory (moves j (begin p memory)) (times (step-point E) i (first-point p memory))
+          → (l : ℕ) × ((limit : ℕ) → l ≤ limit → EndsBy p n (moves j (begin p memory) .words) (runOf limit (image p) memory (started p memory)))
+      by-end j n e (i, r) =
+          let s = moves j (begin p memory) in
+          let h = ended-point E (limits p sound short memory lent) memory s (times (step-point E) i (first-point p memory)) n r e in
+          let at : At s n (times (step-point E) i (first-point p memory)) = (h, one-number (s .end) (h .number) n (h .ends) e) in (
+            suc i,
+            λ limit b.
+                subst (λ (m : Machine). EndsBy p n (s .words) (runOf limit (image p) memory m)) (sym started-is)
+                (rw (run-is limit (first-point p memory) seen) (run-ends i (first-point p memory) seen s n at limit 0 b)),
+          )

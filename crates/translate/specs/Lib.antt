@@ -1,4 +1,0 @@
--- The public translation: what it answers and writes.
-pub mod Translate
-pub mod Room
-pub mod Filled

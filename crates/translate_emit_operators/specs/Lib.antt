@@ -1,0 +1,2 @@
+-- An operator's number.
+pub mod OperatorNumbers
