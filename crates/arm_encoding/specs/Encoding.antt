@@ -6,7 +6,8 @@ use mathlib.Core.Bool.{Bool, false}
 use lib.Dec.{ltb, leb, eqb}
 use Rattle.arm_word.specs.Choice.{pick}
 use Rattle.arm_encoding.specs.declared.Instr.{Instr}
-use Rattle.arm_encoding.specs.declared.Instr.the-variants.{Shli, Shri, Ashri, Addr, Subr, Movi, Addi, Subi, Ldrpci, Strspi, Ldrspi, Addpci, Addspi, Andr, Xorr, Shl, Shr, Negr, Orr, Mul, Mvnr, Str}
+use Rattle.arm_encoding.specs.declared.Instr.the-variants.{Shli, Shri, Ashri, Addr, Subr, Movi, Addi, Subi, Ldrpci, Strspi, Ldrspi, Addpci, Addspi, Andr, Xorr, Shl, Shr, Negr, Orr}
+use Rattle.arm_encoding.specs.declared.Instr.the-variants.{Mul, Mvnr, Str}
 use Rattle.arm_encoding.specs.declared.Instr.the-variants.{Ldr, Stri, Ldri, Incsp, Decsp, Svc, Beq, Bne, Bge, Blt, Bu, Bl}
 use Rattle.arm_encoding.specs.declared.Encoded.{Encoded}
 use Rattle.arm_encoding.specs.declared.Decoded.{Decoded}

@@ -18,7 +18,8 @@ use Rattle.arm_encoding.specs.declared.Instr.the-variants.{Ldrspi, Addpc
 use Rattle.arm_encoding.specs.declared.Encoded.{Encoded}
 use Rattle.arm_encoding.specs.declared.Decoded.the-variants.{Known, Unknown}
 use Rattle.arm_encoding.specs.Encoding.{whole, SHLI, SHRI, ASHRI, ADDR, SUBR, MOVI, ADDI, SUBI, ANDR, XORR, SHL, SHR, NEGR, ORR, MUL, MVNR, LDRPCI, STR, LDR, STRI, LDRI, STRSPI, LDRSPI, ADDPCI}
-use Rattle.arm_encoding.specs.Encoding.{ADDSPI, INCSP, DECSP, BEQ, BNE, BGE, BLT, SVC, BU, Form, form, put, put-long, one, two, refused, swap32, narrow, widen, Row, row, end, cut, within, find, table}
+use Rattle.arm_encoding.specs.Encoding.{ADDSPI, INCSP, DECSP, BEQ, BNE, BGE, BLT, SVC, BU, Form, form, put, put-long, one, two, refused, swap32, narrow, widen, Row, row, end, cut}
+use Rattle.arm_encoding.specs.Encoding.{within, find, table}
 use Rattle.arm_encoding.specs.Encoding.{encodeOf, decodeOf}
 use Rattle.arm_encoding.specs.Fields.{packed-lt, low-digit, middle-digit, high-digit, repack, put-one, put-cases, swap32-swap32, widen-narrow, narrow-widen}
 use Rattle.arm_encoding.specs.EncodingTable.{at, row-hit}

@@ -9,7 +9,8 @@ use Rattle.arm_word.specs.Choice.{pick}
 use Rattle.arm_word.specs.ChoiceLaws.{by-test}
 use Rattle.arm_word.specs.Access.{loaded, stored}
 use Rattle.arm_encoding.specs.declared.Instr.{Instr}
-use Rattle.arm_encoding.specs.declared.Instr.the-variants.{Shli, Shri, Ashri, Addr, Subr, Movi, Addi, Subi, Ldrpci, Strspi, Ldrspi, Addpci, Addspi, Andr, Xorr, Shl, Shr, Negr, Orr, Mul, Mvnr, Str, Ldr}
+use Rattle.arm_encoding.specs.declared.Instr.the-variants.{Shli, Shri, Ashri, Addr, Subr, Movi, Addi, Subi, Ldrpci, Strspi, Ldrspi, Addpci, Addspi, Andr, Xorr, Shl, Shr, Negr, Orr, Mul}
+use Rattle.arm_encoding.specs.declared.Instr.the-variants.{Mvnr, Str, Ldr}
 use Rattle.arm_encoding.specs.declared.Instr.the-variants.{Stri, Ldri, Incsp, Decsp, Svc, Beq, Bne, Bge, Blt, Bu, Bl}
 use Rattle.arm_state.specs.State.{reg, next, takes, result, moves, jump, branch, link}
 use Rattle.arm_state.specs.Effects.{after, Effect, done, ended, fault, goes, stops, alignedOf, slotOf, codeWord, loadSlot, loadAt, load, storeSlot, storeAt, store, executeOf}

@@ -13,7 +13,8 @@ use Rattle.arm_word.specs.Choice.{pick}
 use Rattle.arm_word.specs.ChoiceLaws.{by-test, both, either}
 use Rattle.x_spelling.specs.Kinds as kind
 use Rattle.x_grammar.specs.Grammar.{Token, mark, single, monadic, diadic, last, more, constant, variable, element, bracketed, is-monadic, is-diadic, is-associative}
-use Rattle.x_grammar.specs.Automaton.{ExpressionContext, in-brackets, in-subscript, OperandContext, first, under, next, after, link, State, need-expression, need-operand, have-operand, is, refused, run}
+use Rattle.x_grammar.specs.Automaton.{ExpressionContext, in-brackets, in-subscript, OperandContext, first, under, next, after, link, State, need-expression, need-operand, have-operand, is}
+use Rattle.x_grammar.specs.Automaton.{refused, run}
 use Rattle.x_grammar.specs.TokenArrays.{unread}
 use Rattle.x_grammar.specs.RawRows.{row, monadic-number, diadic-number, count-expression, count-chain, count-operand, rows-expression, rows-chain, rows-operand}
 use Rattle.x_grammar.specs.RawRowLaws.{sets-rows, length-expression, length-chain, length-operand}
@@ -22,7 +23,8 @@ use Rattle.x_grammar.specs.AutomatonMoves.{run-expression, run-monadic, run-und
 use Rattle.x_grammar.specs.Unread.{inside, unread-number, unread-name, unread-mark, unread-joins, unread-negates, unread-not, unread-goes-on, no-operand}
 use Rattle.x_program.specs.Layout.{row-words}
 use Rattle.x_program.specs.Layout as layout
-use Rattle.front_read_expressions.specs.Reads.{Form, Moved, Reads, operand-form, expression-form, chain-form, closed, deepened, counted-row, tabled, row-of-last, row-of-two, Within, Ready, Shallow}
+use Rattle.front_read_expressions.specs.Reads.{Form, Moved, Reads, operand-form, expression-form, chain-form, closed, deepened, counted-row, tabled, row-of-last, row-of-two, Within}
+use Rattle.front_read_expressions.specs.Reads.{Ready, Shallow}
 use Rattle.front_read_expressions.specs.declared.Read.{Read}
 use Rattle.front_read_expressions.specs.declared.Read.the-variants.{Done, Bad}
 

@@ -17,7 +17,8 @@ use Rattle.x_grammar.specs.TokenArrays.{unread}
 use Rattle.x_grammar.specs.RawRows.{row, count-expression, count-process, count-processes, rows-expression, rows-process, rows-processes}
 use Rattle.x_grammar.specs.RawRowLaws.{length-expression, length-process, length-processes}
 use Rattle.x_grammar.specs.AutomatonMoves.{run-skip, run-stop, run-comment, run-target, run-becomes, run-target-subscript, run-target-end, run-element-becomes, run-open, run-empty, run-if, run-then}
-use Rattle.x_grammar.specs.AutomatonMoves.{run-else, run-while, run-do, run-assigned, run-element-assigned, run-opened, run-conditional, run-repeated, run-commented, run-target-stop, run-target-end-stop}
+use Rattle.x_grammar.specs.AutomatonMoves.{run-else, run-while, run-do, run-assigned, run-element-assigned, run-opened, run-conditional, run-repeated, run-commented, run-target-stop}
+use Rattle.x_grammar.specs.AutomatonMoves.{run-target-end-stop}
 use Rattle.x_grammar.specs.AutomatonMoves.{run-element-stop, run-then-stop, run-else-stop, run-do-stop, run-close, run-semicolon, run-list-stop}
 use Rattle.x_grammar.specs.Unread.{inside, unread-name, unread-mark, unread-not, no-process}
 use Rattle.x_program.specs.Layout.{row-words}

@@ -15,7 +15,8 @@ use Rattle.x_grammar.specs.Grammar.{Token, name, mark, Constant, literal, named
 use Rattle.x_grammar.specs.Automaton.{var-read, array-read, array-named, array-opened, array-sized, val-read, val-named, val-equated, whole, State, at-front, specifying, comments-before, refused, run}
 use Rattle.x_grammar.specs.TokenArrays.{unread}
 use Rattle.x_grammar.specs.RawRows.{declared-by}
-use Rattle.x_grammar.specs.SpecificationMoves.{Names, Constants, Marks, run-front-comment, run-var, run-array, run-val, run-front, run-var-name, run-array-name, run-val-name, run-array-open, run-array-close}
+use Rattle.x_grammar.specs.SpecificationMoves.{Names, Constants, Marks, run-front-comment, run-var, run-array, run-val, run-front, run-var-name, run-array-name, run-val-name}
+use Rattle.x_grammar.specs.SpecificationMoves.{run-array-open, run-array-close}
 use Rattle.x_grammar.specs.SpecificationMoves.{run-val-equal, run-specified, var-stop, array-stop, val-stop, array-constant-stop, val-constant-stop, array-open-stop, array-close-stop, val-equal-stop}
 use Rattle.x_grammar.specs.SpecificationMoves.{semicolon-stop}
 use Rattle.x_grammar.specs.AutomatonComplete.{all-constant-array, all-constant-val}

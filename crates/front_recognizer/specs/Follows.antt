@@ -23,7 +23,8 @@ use Rattle.x_grammar.specs.Unread.{token-case, at-is}
 use Rattle.front_recognizer.specs.declared.Frame.{Frame}
 use Rattle.front_recognizer.specs.declared.Action.{Action}
 use Rattle.front_recognizer.specs.Modes as mode
-use Rattle.front_recognizer.specs.Pushdown.{frame, braces-open, at, counted, level-process, level-list, level-expression, level-operand, level-chain, operator-before, frames-process, frames-list}
+use Rattle.front_recognizer.specs.Pushdown.{frame, braces-open, at, counted, level-process, level-list, level-expression, level-operand, level-chain, operator-before, frames-process}
+use Rattle.front_recognizer.specs.Pushdown.{frames-list}
 use Rattle.front_recognizer.specs.Pushdown.{frames-expression, frames-operand, frames-chain, mode-partial, configuration, after-process, after-expression, links, after-operand, start-operand}
 use Rattle.front_recognizer.specs.Pushdown.{start-expression, start-process, specify, innermost, act, doing, complete}
 

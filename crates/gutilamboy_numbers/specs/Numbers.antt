@@ -3,7 +3,8 @@ use Prim.Native.Nat.{ℕ}
 use mathlib.Core.List.{List, [], _∷_}
 use lib.ListN.{getD}
 use Rattle.arm_encoding.specs.declared.Instr.{Instr}
-use Rattle.arm_encoding.specs.declared.Instr.the-variants.{Shli, Shri, Ashri, Addr, Subr, Movi, Addi, Subi, Ldrpci, Strspi, Ldrspi, Addpci, Addspi, Andr, Xorr, Shl, Shr, Negr, Orr, Mul, Mvnr, Str, Ldr}
+use Rattle.arm_encoding.specs.declared.Instr.the-variants.{Shli, Shri, Ashri, Addr, Subr, Movi, Addi, Subi, Ldrpci, Strspi, Ldrspi, Addpci, Addspi, Andr, Xorr, Shl, Shr, Negr, Orr, Mul}
+use Rattle.arm_encoding.specs.declared.Instr.the-variants.{Mvnr, Str, Ldr}
 use Rattle.arm_encoding.specs.declared.Instr.the-variants.{Stri, Ldri, Incsp, Decsp, Svc, Beq, Bne, Bge, Blt, Bu, Bl}
 use Rattle.arm_encoding.specs.declared.Encoded.{Encoded}
 use Rattle.arm_encoding.specs.declared.Decoded.{Decoded}

@@ -8,7 +8,8 @@ use Rattle.arm_word.specs.Choice.{pick}
 use Rattle.text_lines.specs.Ascii.{ascii}
 use Rattle.text_lines.specs.Text.{hexadecimal, decimal}
 use Rattle.arm_encoding.specs.declared.Instr.{Instr}
-use Rattle.arm_encoding.specs.declared.Instr.the-variants.{Shli, Shri, Ashri, Addr, Subr, Movi, Addi, Subi, Ldrpci, Strspi, Ldrspi, Addpci, Addspi, Andr, Xorr, Shl, Shr, Negr, Orr, Mul, Mvnr, Str, Ldr}
+use Rattle.arm_encoding.specs.declared.Instr.the-variants.{Shli, Shri, Ashri, Addr, Subr, Movi, Addi, Subi, Ldrpci, Strspi, Ldrspi, Addpci, Addspi, Andr, Xorr, Shl, Shr, Negr, Orr, Mul}
+use Rattle.arm_encoding.specs.declared.Instr.the-variants.{Mvnr, Str, Ldr}
 use Rattle.arm_encoding.specs.declared.Instr.the-variants.{Stri, Ldri, Incsp, Decsp, Svc, Beq, Bne, Bge, Blt, Bu, Bl}
 
 abbrev pub register : ℕ → List ℕ

@@ -9,7 +9,8 @@ use Rattle.text_lines.specs.Ascii.{ascii}
 use Rattle.text_lines.specs.Text.{fitted}
 use Rattle.text_lines.specs.LineLaws.{length-digits}
 use Rattle.arm_encoding.specs.declared.Instr.{Instr}
-use Rattle.arm_encoding.specs.declared.Instr.the-variants.{Shli, Shri, Ashri, Addr, Subr, Movi, Addi, Subi, Ldrpci, Strspi, Ldrspi, Addpci, Addspi, Andr, Xorr, Shl, Shr, Negr, Orr, Mul, Mvnr, Str, Ldr}
+use Rattle.arm_encoding.specs.declared.Instr.the-variants.{Shli, Shri, Ashri, Addr, Subr, Movi, Addi, Subi, Ldrpci, Strspi, Ldrspi, Addpci, Addspi, Andr, Xorr, Shl, Shr, Negr, Orr, Mul}
+use Rattle.arm_encoding.specs.declared.Instr.the-variants.{Mvnr, Str, Ldr}
 use Rattle.arm_encoding.specs.declared.Instr.the-variants.{Stri, Ldri, Incsp, Decsp, Svc, Beq, Bne, Bge, Blt, Bu, Bl}
 use Rattle.text_mnemonic.specs.Mnemonic.{alone, immediate, pair, offset, triple, branch, instruction}
 

@@ -9,7 +9,8 @@ use lib.ListN.{getD, length}
 use Rattle.arm_word.specs.Access.{Access}
 use Rattle.x_program.specs.Tree.{Expression, constant, variable, element, monadic, diadic, bracket, Process, skip, stop, assign, assign-element, braces, conditional, loop, Processes, none, also}
 use Rattle.x_program.specs.Resolved.{past-data}
-use Rattle.x_meaning.specs.SourceRun.{Item, evaluate, work₁, work₂, check, load, execute, set-variable, store, choose, repeat, in-order, End, going, finish, stopped, bad-subscript, State, state, move, moves}
+use Rattle.x_meaning.specs.SourceRun.{Item, evaluate, work₁, work₂, check, load, execute, set-variable, store, choose, repeat, in-order, End, going, finish, stopped, bad-subscript, State}
+use Rattle.x_meaning.specs.SourceRun.{state, move, moves}
 use Rattle.theorem_simulation.specs.Abstract.{registers, Abstract, machine}
 use Rattle.theorem_simulation.specs.Straight.{Path, advance, address}
 use Rattle.theorem_simulation.specs.Relation.{Setting, data-of, array-of, Limits, Fits, item-code, Continues, Place, Memory, Related, Good}

@@ -22,7 +22,8 @@ use Rattle.arm_machine.specs.Start.{startRefusal, startOf}
 use Rattle.arm_machine.specs.Trace.{listed}
 use Rattle.arm_machine.specs.declared.Started.{Started}
 use Rattle.x_program.specs.Sound.{Sound}
-use Rattle.theorem_simulation.specs.Demand3.{Each, D, N, needs, Lent, Call, step, run, tried, Called, call, calls, all-tried, trace-of, started, called, Kept, Ended, Orderly, Answered, EndsBy, Demand3}
+use Rattle.theorem_simulation.specs.Demand3.{Each, D, N, needs, Lent, Call, step, run, tried, Called, call, calls, all-tried, trace-of, started, called, Kept, Ended, Orderly}
+use Rattle.theorem_simulation.specs.Demand3.{Answered, EndsBy, Demand3}
 use Rattle.theorem_simulation.specs.Generic.{times, times-stays, sees, reaches}
 use Rattle.theorem_simulation.specs.Straight.{address}
 use Rattle.theorem_simulation.specs.Relation.{Setting, data-of}

@@ -9,7 +9,8 @@ use native.Mathlib.Omega.{arith}
 use lib.ListN.{getD, length}
 use Rattle.arm_word.specs.Access.{Access}
 use Rattle.arm_encoding.specs.declared.Instr.the-variants.{Svc}
-use Rattle.x_meaning.specs.SourceRun.{Item, evaluate, work₁, work₂, check, load, execute, set-variable, store, choose, repeat, End, going, finish, stopped, bad-subscript, State, state, move, ends-with}
+use Rattle.x_meaning.specs.SourceRun.{Item, evaluate, work₁, work₂, check, load, execute, set-variable, store, choose, repeat, End, going, finish, stopped, bad-subscript, State, state}
+use Rattle.x_meaning.specs.SourceRun.{move, ends-with}
 use Rattle.theorem_simulation.specs.Abstract.{registers, Abstract, machine, pc-of, sp-of, memory-of, trace-of}
 use Rattle.theorem_simulation.specs.Straight.{Holds, here, more, go, address}
 use Rattle.theorem_simulation.specs.Relation.{Setting, data-of, Limits, Jumps, there, hop, ItemAt, Place, Memory, Related, Good}

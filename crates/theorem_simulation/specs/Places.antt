@@ -5,13 +5,15 @@ use Prim.Native.Nat.{ℕ, _+_, _*_, _-_, _/_, _%_, _≤_, _<_}
 use native.Mathlib.Omega.{arith}
 use lib.ListN.{length, length-append}
 use Rattle.arm_word.specs.Word.{add}
-use Rattle.arm_encoding.specs.Encoding.{Form, put, put-long, encodeOf, swap32, narrow, SHLI, SHRI, ASHRI, ADDR, SUBR, MOVI, ADDI, SUBI, LDRPCI, STRSPI, LDRSPI, ADDPCI, ADDSPI, ANDR, XORR, SHL, SHR, NEGR}
+use Rattle.arm_encoding.specs.Encoding.{Form, put, put-long, encodeOf, swap32, narrow, SHLI, SHRI, ASHRI, ADDR, SUBR, MOVI, ADDI, SUBI, LDRPCI, STRSPI, LDRSPI, ADDPCI, ADDSPI, ANDR, XORR}
+use Rattle.arm_encoding.specs.Encoding.{SHL, SHR, NEGR}
 use Rattle.arm_encoding.specs.Encoding.{ORR, MUL, MVNR, STR, LDR, STRI, LDRI, INCSP, DECSP, SVC, BEQ, BNE, BGE, BLT, BU}
 use Rattle.arm_encoding.specs.Fields.{put-cases}
 use Rattle.arm_encoding.specs.EncodingLaws.{long-cases}
 use Rattle.arm_encoding.specs.EncodingByteLaws.{length-bytes}
 use Rattle.arm_encoding.specs.declared.Instr.{Instr}
-use Rattle.arm_encoding.specs.declared.Instr.the-variants.{Shli, Shri, Ashri, Addr, Subr, Movi, Addi, Subi, Ldrpci, Strspi, Ldrspi, Addpci, Addspi, Andr, Xorr, Shl, Shr, Negr, Orr, Mul, Mvnr, Str, Ldr}
+use Rattle.arm_encoding.specs.declared.Instr.the-variants.{Shli, Shri, Ashri, Addr, Subr, Movi, Addi, Subi, Ldrpci, Strspi, Ldrspi, Addpci, Addspi, Andr, Xorr, Shl, Shr, Negr, Orr, Mul}
+use Rattle.arm_encoding.specs.declared.Instr.the-variants.{Mvnr, Str, Ldr}
 use Rattle.arm_encoding.specs.declared.Instr.the-variants.{Stri, Ldri, Incsp, Decsp, Svc, Beq, Bne, Bge, Blt, Bu, Bl}
 use Rattle.translate_rules.specs.InstructionBytes.{bytes-of, bytes, size}
 use Rattle.theorem_simulation.specs.Abstract.{target, width}

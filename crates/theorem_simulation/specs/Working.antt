@@ -20,7 +20,8 @@ use Rattle.x_program.specs.Tree.{Monadic, negate, invert, Diadic, plus, minus, 
 use Rattle.x_meaning.specs.Operators.{work-monadic, work-diadic}
 use Rattle.translate_rules.specs.Blocks.{less-than, far-shift, diadic-instructions}
 use Rattle.theorem_simulation.specs.Abstract.{registers, get, machine, performs, width}
-use Rattle.theorem_simulation.specs.Straight.{At, nil, _▸_, Holds, advance, head-at, first-at, rest-at, advance-append, Goes, Path, here, more, go, join, equal-taken, equal-passed, unequal-taken}
+use Rattle.theorem_simulation.specs.Straight.{At, nil, _▸_, Holds, advance, head-at, first-at, rest-at, advance-append, Goes, Path, here, more, go, join, equal-taken, equal-passed}
+use Rattle.theorem_simulation.specs.Straight.{unequal-taken}
 use Rattle.theorem_simulation.specs.Straight.{unequal-passed}
 
 -- ── what the words come to ──

@@ -3,7 +3,8 @@
 use Prim.Native.Nat.{ℕ, _-_, _*_, _/_}
 use mathlib.Core.List.{List, [], _∷_, _++_}
 use Rattle.arm_encoding.specs.declared.Instr.{Instr}
-use Rattle.arm_encoding.specs.declared.Instr.the-variants.{Shli, Shri, Addr, Subr, Movi, Addi, Subi, Strspi, Ldrspi, Andr, Xorr, Shl, Shr, Negr, Orr, Mul, Mvnr, Str, Ldr, Incsp, Decsp, Svc, Beq, Bne, Bl}
+use Rattle.arm_encoding.specs.declared.Instr.the-variants.{Shli, Shri, Addr, Subr, Movi, Addi, Subi, Strspi, Ldrspi, Andr, Xorr, Shl, Shr, Negr, Orr, Mul, Mvnr, Str, Ldr, Incsp, Decsp, Svc}
+use Rattle.arm_encoding.specs.declared.Instr.the-variants.{Beq, Bne, Bl}
 use Rattle.x_program.specs.Tree.{Monadic, negate, invert, Diadic, plus, minus, times, bit-and, bit-or, bit-xor, right, left, equal, unequal, less, at-most, greater, at-least}
 use Rattle.translate_rules.specs.Constant.{load-constant}
 

@@ -21,7 +21,8 @@ use Rattle.x_program.specs.Core.{core, core-process, core-list}
 use Rattle.x_program.specs.Resolved.{Resolved, ResolvedProcess, ResolvedAll}
 use Rattle.translate_rules.specs.InstructionBytes.{size}
 use Rattle.translate_rules.specs.Constant.{byte-constant, span-constant, long-constant, spans-byte, load-constant}
-use Rattle.translate_rules.specs.Blocks.{push-constant, push-variable, check-subscript, load-element, work-monadic-code, less-than, far-shift, diadic-instructions, work-diadic-code, assign-variable}
+use Rattle.translate_rules.specs.Blocks.{push-constant, push-variable, check-subscript, load-element, work-monadic-code, less-than, far-shift, diadic-instructions, work-diadic-code}
+use Rattle.translate_rules.specs.Blocks.{assign-variable}
 use Rattle.translate_rules.specs.Blocks.{store-element, take-condition, jump-over, jump-back}
 use Rattle.translate_rules.specs.ImageCode.{expression-code, choice-code, repeat-code, process-code, image-code, image}
 use Rattle.translate_rules.specs.CodeLaws.{size-append, list-code}

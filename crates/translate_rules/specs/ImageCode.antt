@@ -6,7 +6,8 @@ use Rattle.arm_encoding.specs.declared.Instr.the-variants.{Svc}
 use Rattle.x_program.specs.Tree.{Program}
 use Rattle.x_program.specs.Core.{Expression, constant, variable, element, monadic, diadic, Process, skip, stop, assign, assign-element, sequence, conditional, loop, core-process}
 use Rattle.translate_rules.specs.InstructionBytes.{bytes, size}
-use Rattle.translate_rules.specs.Blocks.{push-constant, push-variable, check-subscript, load-element, work-monadic-code, work-diadic-code, assign-variable, store-element, take-condition, jump-over}
+use Rattle.translate_rules.specs.Blocks.{push-constant, push-variable, check-subscript, load-element, work-monadic-code, work-diadic-code, assign-variable, store-element}
+use Rattle.translate_rules.specs.Blocks.{take-condition, jump-over}
 use Rattle.translate_rules.specs.Blocks.{jump-back}
 
 unfoldable pub expression-code : Expression → List Instr

@@ -16,7 +16,8 @@ use Rattle.x_program.specs.Tree.{Monadic, negate, Diadic, plus, minus, times, b
 use Rattle.x_program.specs.Core.{core, core-process, core-list}
 use Rattle.translate_rules.specs.InstructionBytes.{bytes-of, bytes, size}
 use Rattle.translate_rules.specs.Constant.{spans-byte, load-constant}
-use Rattle.translate_rules.specs.Blocks.{push-constant, push-variable, check-subscript, load-element, work-monadic-code, less-than, far-shift, diadic-instructions, work-diadic-code, assign-variable}
+use Rattle.translate_rules.specs.Blocks.{push-constant, push-variable, check-subscript, load-element, work-monadic-code, less-than, far-shift, diadic-instructions, work-diadic-code}
+use Rattle.translate_rules.specs.Blocks.{assign-variable}
 use Rattle.translate_rules.specs.Blocks.{store-element, take-condition}
 use Rattle.translate_rules.specs.ImageCode.{expression-code, choice-code, repeat-code, process-code, image-code, image}
 use Rattle.translate_rules.specs.CodeLaws.{list-code}

@@ -20,11 +20,14 @@ use Rattle.x_grammar.specs.Automaton.{val-named, val-equated, whole, Sta
 use Rattle.x_grammar.specs.Automaton.{need-operand, name-read, have-operand, have-expression, goes-on, accepted, run}
 use Rattle.x_grammar.specs.AutomatonMoves.{head-is, opens, joins, negates, run-number, run-name, run-brackets, run-brackets-end, run-subscript, run-subscript-end, run-variable, run-expression}
 use Rattle.x_grammar.specs.AutomatonMoves.{run-monadic, run-under, run-single, run-diadic, run-last, run-link, run-skip, run-stop, run-comment, run-target, run-becomes, run-target-subscript}
-use Rattle.x_grammar.specs.AutomatonMoves.{run-target-end, run-element-becomes, run-open, run-empty, run-if, run-then, run-else, run-while, run-do, run-assigned, run-element-assigned, run-conditional}
+use Rattle.x_grammar.specs.AutomatonMoves.{run-target-end, run-element-becomes, run-open, run-empty, run-if, run-then, run-else, run-while, run-do, run-assigned, run-element-assigned}
+use Rattle.x_grammar.specs.AutomatonMoves.{run-conditional}
 use Rattle.x_grammar.specs.AutomatonMoves.{run-repeated, run-commented, run-close, run-semicolon}
-use Rattle.x_grammar.specs.SpecificationMoves.{run-front-comment, run-var, run-array, run-val, run-var-name, run-array-name, run-val-name, run-array-open, run-array-close, run-val-equal, run-specified}
+use Rattle.x_grammar.specs.SpecificationMoves.{run-front-comment, run-var, run-array, run-val, run-var-name, run-array-name, run-val-name, run-array-open, run-array-close}
+use Rattle.x_grammar.specs.SpecificationMoves.{run-val-equal, run-specified}
 use Rattle.x_grammar.specs.SpecificationMoves.{run-done}
-use Rattle.x_grammar.specs.AutomatonSound.{before-front, comments, before-process, before-list, before-expression, before-operand, before-chain, text-partial, text-state, fine-process, fine-list}
+use Rattle.x_grammar.specs.AutomatonSound.{before-front, comments, before-process, before-list, before-expression, before-operand, before-chain, text-partial, text-state}
+use Rattle.x_grammar.specs.AutomatonSound.{fine-process, fine-list}
 use Rattle.x_grammar.specs.AutomatonSound.{fine-expression, fine-operand, fine-chain, fine, front-text, comments-text, in-comments-text, in-comments-fine}
 
 -- Reading. What follows an expression neither opens a subscript nor joins an operand.

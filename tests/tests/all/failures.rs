@@ -15,7 +15,8 @@ use std::process::{Command, Output, Stdio};
 use tests::rendering::{self, Rendering};
 
 /// The programs, and what each writes for a source.
-const PROGRAMS: [(&str, Rendering); 2] = [("report", rendering::report), ("listing", rendering::listing)];
+const PROGRAMS: [(&str, Rendering); 3] =
+    [("report", rendering::report), ("listing", rendering::listing), ("explain", rendering::explain)];
 
 /// The shells that may run a wrapper, those that are here.
 fn shells() -> Vec<PathBuf> {

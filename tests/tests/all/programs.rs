@@ -199,6 +199,97 @@ fn the_listing() {
     enough("listing", &seen);
 }
 
+/// Rules as they go wrong: each with the number that it is refused by.
+#[rustfmt::skip]
+const MISTAKES: [(u32, &str); 37] = [
+    (6, "var x; if x = 1 then x := 2"), (6, "var x; { if x = 1 then x := 2; skip }"), (6, "var a; a := a - 1 - 2"),
+    (6, "var a; a = 1"), (6, "var a; { skip; a = 1 }"), (6, "var v; |a| v = 1"), (6, "array v [ 2 ]; v [ 0 ] = 1"),
+    (6, "var a; a := a = 1 = 2"), (6, "var a; a := 1 = a = 2"), (6, "var a; a := (a) = 1 = 2"), (6, "var a; a == 1"), (6, "var a; a := a == 1"),
+    (6, "= 1"), (6, "* 2"), (6, "var a, b; skip"), (6, "VAR a; skip"), (6, "skip;"), (6, "{ skip; }"), (6, "{ skip; skip;\n"),
+    (6, "var a; a := 1; a := 2"), (6, "var a; { a := 1 a := 2 }"), (6, "skip |end|"), (6, "val a = -1; skip"),
+    (6, "var a; a := 1 + -1"), (6, "{ var a; skip }"), (6, "proc p is skip; p"), (6, "}"), (6, "var a; a"), (6, "var a;\n\n"),
+    (6, "a b"), (6, "var a; a := (1 + 2"), (2, "var a; a := 1 / 2"), (2, "var a; a := 'ab'"), (2, "skip |open"),
+    (2, "var a; if a != 1 then skip else skip"), (8, "var a; b := 1"), (10, "val a = 1; a := 2"),
+];
+
+/// Sources whose places and lines are hard to show.
+fn awkward() -> Vec<Vec<u8>> {
+    let mut sources: Vec<Vec<u8>> = MISTAKES.iter().map(|(_, source)| source.as_bytes().to_vec()).collect();
+    // other ends of lines, and what a terminal can't show
+    for (_, source) in MISTAKES {
+        sources.push(source.replace(' ', "\r\n").into_bytes());
+        sources.push(source.replace(' ', "\t").into_bytes());
+        sources.push(format!("\n\r\n|\u{e9}\u{0}\u{7f}|{source}").into_bytes());
+        sources.push(format!("\n\n{source} \t\r\n \n").into_bytes());
+    }
+    // a place in each column about where lines are cut, with nothing or much behind it
+    for before in (0..4).chain(30..40).chain(68..80).chain(100..112).chain([300, 16_300]) {
+        for after in [0, 1, 35, 36, 37, 71, 72, 73, 400] {
+            let mut source = vec![b'\n'; before % 3];
+            source.extend(vec![b' '; before]);
+            source.push(b'$');
+            source.extend((0..after).map(|i| b"\t\r\x00\x1f ~\x7f\x80\xffa"[i % 10]));
+            source.extend(if before % 2 == 0 { &b"\nskip"[..] } else { b"" });
+            source.truncate(16_384);
+            sources.push(source);
+        }
+    }
+    // the end of the source as the place, on a line of any length
+    for length in [0, 1, 71, 72, 73, 74, 107, 108, 109, 16_383, 16_384] {
+        sources.push(vec![b' '; length]);
+        sources.push(vec![b'\n'; length]);
+        sources.push([vec![b' '; length.saturating_sub(1)], vec![b'\n'; length.min(1)]].concat());
+    }
+    // as many names as there may be, of 32 bytes, and as many words
+    let name = |i: usize| format!("n{i:031}");
+    let vars: String = (0..256).map(|i| format!("var {};", name(i))).collect();
+    let vals: String = (0..200).map(|i| format!("val {} = #80000000;", name(i))).collect();
+    sources.extend([format!("{vars}skip").into_bytes(), format!("{vals}skip").into_bytes()]);
+    sources.push(format!("val a = 8192; array {} [ a ]; skip", name(0)).into_bytes());
+    sources.push(b"array a [ 1 ]; array b [ 8190 ]; var z; skip".to_vec());
+    sources
+}
+
+/// Every rule that goes wrong is refused by the number that is expected.
+#[test]
+fn mistakes_have_their_numbers() {
+    for (number, source) in MISTAKES {
+        assert_eq!(rendering::translated(source.as_bytes()).0.status, number, "{source}");
+    }
+}
+
+#[test]
+fn the_explanation() {
+    let built = Built::new("explain");
+    let sources = [sources(), awkward()].concat();
+    let seen = compare(|source| built.writes(source), rendering::explain, &sources);
+    enough("explain", &seen);
+    // every line that 6 can end with is among them
+    let last = |source: &Vec<u8>| {
+        let text = String::from_utf8(rendering::explain(source)).expect("ASCII");
+        text.lines().skip_while(|line| !line.starts_with("6: ")).nth(1).map(String::from)
+    };
+    let hints: BTreeSet<Option<String>> = sources.iter().map(last).collect();
+    assert_eq!(hints.len(), 15, "{hints:?}");
+}
+
+/// The examples of docs/EXPLAIN.md: a source, and what is written for it.
+#[test]
+fn documented_explanations() {
+    let document = std::fs::read_to_string(repository().join("docs/EXPLAIN.md")).expect("the document");
+    let blocks = |opening: &str| -> Vec<String> {
+        let parts = document.split(opening).skip(1);
+        parts.map(|part| part.split_once("```").expect("an end").0.to_string()).collect()
+    };
+    let (sources, texts) = (blocks("```x\n"), blocks("```text\n"));
+    assert!(sources.len() >= 2 && sources.len() == texts.len(), "{} and {}", sources.len(), texts.len());
+    let built = Built::new("explain");
+    for (source, text) in sources.iter().zip(&texts) {
+        assert_eq!(&String::from_utf8_lossy(&rendering::explain(source.as_bytes())), text);
+        assert_eq!(&String::from_utf8_lossy(&built.writes(source.as_bytes())), text);
+    }
+}
+
 /// Document 01's own output, and the stored listing.
 #[test]
 fn stored_outputs() {
@@ -244,12 +335,16 @@ fn wrong_renderings_are_noticed() {
     fn short(source: &[u8]) -> Vec<u8> {
         rendering::report(&source[..source.len().min(16_384)])
     }
+    fn explained(change: fn(String) -> String) -> impl Fn(&[u8]) -> Vec<u8> {
+        move |source| change(String::from_utf8(rendering::explain(source)).expect("ASCII")).into_bytes()
+    }
     let sources = sources();
     let passes = |program: &dyn Fn(&[u8]) -> Vec<u8>, render| {
         std::panic::catch_unwind(std::panic::AssertUnwindSafe(|| compare(program, render, &sources))).is_ok()
     };
     assert!(passes(&rendering::report, rendering::report));
     assert!(passes(&rendering::listing, rendering::listing));
+    assert!(passes(&rendering::explain, rendering::explain));
     let tokens_and_rows = report_of(|t| Translation { tokens: t.rows, rows: t.tokens, ..t });
     let data_and_depth = report_of(|t| Translation { data: t.depth, depth: t.data, ..t });
     assert!(!passes(&tokens_and_rows, rendering::report), "tokens= and rows= exchanged");
@@ -257,4 +352,10 @@ fn wrong_renderings_are_noticed() {
     assert!(!passes(&short, rendering::report), "16,384 bytes read");
     assert!(!passes(&exchanged, rendering::listing), "SHL and SHR exchanged");
     assert!(!passes(&cut, rendering::listing), "cut after 256 bytes");
+    let caret = explained(|text| text.replacen("^\n", " ^\n", 1));
+    let column = explained(|text| text.replacen("column 1\n", "column 0\n", 1));
+    let names = explained(|text| text.replace("array", "var  "));
+    assert!(!passes(&caret, rendering::explain), "a caret one column off");
+    assert!(!passes(&column, rendering::explain), "columns from 0");
+    assert!(!passes(&names, rendering::explain), "arrays as vars");
 }

@@ -8,7 +8,8 @@ use Rattle.x_spelling.specs.Kinds as kind
 use Rattle.x_grammar.specs.Grammar.{is-monadic, is-diadic, is-associative}
 use Rattle.x_grammar.specs.Unread.{inside}
 use Rattle.front_read_expressions.specs.Reads.{Reads, operand-form, Moved, Ready, closed}
-use Rattle.front_read_expressions.specs.Parts.{within-of, ready-of, shallow-of, shallow-after, monadic-big, diadic-big, moved-closed, operand-number, operand-variable, operand-none, operand-brackets}
+use Rattle.front_read_expressions.specs.Parts.{within-of, ready-of, shallow-of, shallow-after, monadic-big, diadic-big, moved-closed, operand-number, operand-variable, operand-none}
+use Rattle.front_read_expressions.specs.Parts.{operand-brackets}
 use Rattle.front_read_expressions.specs.Parts.{operand-element, expression-monadic, expression-bad, expression-single, expression-diadic, chain-bad, chain-last, chain-more}
 use Rattle.front_read_expressions.specs.declared.Read.{Read}
 use Rattle.front_read_expressions.specs.declared.Read.the-variants.{Done}

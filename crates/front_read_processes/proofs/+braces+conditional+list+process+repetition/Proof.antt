@@ -13,7 +13,8 @@ use Rattle.front_read_expressions.specs.declared.Read.{Read}
 use Rattle.front_read_expressions.specs.declared.Read.the-variants.{Done, Bad}
 use Rattle.front_read_processes.specs.Forms.{process-form}
 use Rattle.front_read_processes.specs.Lists.{Kept, kept-all, kept-then, Resumes, resumes-start, resumes-bad, resumes-stop, resumes-last, resumes-more}
-use Rattle.front_read_processes.specs.ProcessReaders.{if-form, then-form, while-form, close-if, close-then, close-while, process-skip, process-stop, process-empty, process-none, process-comments}
+use Rattle.front_read_processes.specs.ProcessReaders.{if-form, then-form, while-form, close-if, close-then, close-while, process-skip, process-stop, process-empty, process-none}
+use Rattle.front_read_processes.specs.ProcessReaders.{process-comments}
 use Rattle.front_read_processes.specs.ProcessReaders.{process-braces, while-bad, process-while, if-bad, then-bad, process-if}
 use Prim.Native.Nat.{ℕ, _<_, _≤_, _+_, _*_, _-_}
 use borrow.Fn.Kinds.{In}

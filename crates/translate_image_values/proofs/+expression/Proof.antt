@@ -1,10 +1,12 @@
--- `translate_image_values::expression` meets its contract. A row names only earlier rows, so the measure is its number. For each kind a law of `Walk` says what its code is; the parts are written one after another.
+-- `translate_image_values::expression` meets its contract. A row names only earlier rows, so the measure is its number. For each kind a law of `Walk` says what its code is; the parts are
+-- written one after another.
 -- Assumes nothing.
 use mathlib.Core.Path.{_≡_}
 use native.Mathlib.Omega.{arith}
 use Rattle.x_program.specs.Layout as layout
 use Rattle.translate_emit_instructions.specs.Write.{first, rest, then, kept}
-use Rattle.translate_image_values.specs.RowCode.{named, declared, offset-small, kind-from, kind-to, constant-code, variable-names, variable-code, element-names, element-code, monadic-names, monadic-code}
+use Rattle.translate_image_values.specs.RowCode.{named, declared, offset-small, kind-from, kind-to, constant-code, variable-names, variable-code, element-names, element-code}
+use Rattle.translate_image_values.specs.RowCode.{monadic-names, monadic-code}
 use Rattle.translate_image_values.specs.RowCode.{diadic-names, diadic-code}
 use Prim.Native.Nat.{ℕ, _<_}
 use borrow.Fn.Kinds.{In}

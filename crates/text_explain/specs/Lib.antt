@@ -1,0 +1,3 @@
+-- The explanation of a source, and its laws.
+pub mod Explain
+pub mod ExplainLaws
