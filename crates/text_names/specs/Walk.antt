@@ -100,10 +100,6 @@ module _ (source places values : List ℕ) where
   unfolding found
   found-more declared words n k t w d l = rw (getD-set-same declared k t 0 d, getD-set-same words k w 0 l, found-kept declared words n k t w k (omega arith)) refl
 
-  -- the same for the name at token t
-  abbrev pub val-found : List ℕ → List ℕ → ℕ → ℕ → ℕ
-  val-found declared words count t = found declared words count (text-at source places values t)
-
 -- ── the kind of the next token ──
 
 abbrev kind-of : Token → ℕ
