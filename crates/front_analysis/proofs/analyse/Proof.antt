@@ -15,7 +15,7 @@ pub analyse-spec : {M : Type 1} → statement M
 analyse-spec =
     tie.close
     (tie.spec
-    (search needs) (λ c. search needs)
+    (λ c κs. search needs) (λ c. search needs)
     (λ c. let tokens = c .before .before .before .tokens in let a = c .before .before .before .before .before .before .before .before .args in
     omega (
       arith,

@@ -11,7 +11,7 @@ pub names-spec : {M : Type 1} → statement M
 names-spec =
     tie.close
     (tie.spec
-    (search needs) (λ c. search needs) (λ c. search needs) (search needs)
+    (λ c κs. search needs) (λ c. search needs) (λ c. search needs) (λ c κs. search needs)
     (λ c. let bound = c .before .before .before .bind in let start = c .before .before .before .before .before .before .before .before .before .before .before .before .before .before in
     let names = arrays (bound .last .1 .1 .1 .1 .0) (bound .last .1 .1 .1 .1 .1 .0) (bound .last .1 .1 .1 .1 .1 .1 .0) (bound .last .1 .1 .1 .1 .1 .1 .1 .0)
     (bound .last .1 .1 .1 .1 .1 .1 .1 .1 .0) (bound .ensures .0) in

@@ -7,6 +7,6 @@ use Rattle.front_analysis.proofs.place_of.Tie as tie
 
 pub place-of-spec : {M : Type 1} → statement M
 place-of-spec = tie.close (tie.spec
-    (search needs)
+    (λ c κs. search needs)
     (λ c. rw (lt-ltb _ _ (c .before .if1 .taken)) (c .number .ensures))
     (λ c. rw (le-ltb _ _ (c .if1 .left)) refl))

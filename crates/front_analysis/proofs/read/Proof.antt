@@ -12,7 +12,7 @@ pub read-spec : {M : Type 1} → statement M
 read-spec =
     tie.close
     (tie.spec
-    (search needs) (λ c. search needs) (λ c. search needs) (search needs) (λ c. search needs)
+    (λ c κs. search needs) (λ c. search needs) (λ c. search needs) (λ c κs. search needs) (λ c. search needs)
     (λ c. let program = c .before .before .before .before .program in let start = c .before .before .before .before .before .before .before .before .before .before in
     let a = c .before .before .before .before .before .before .before .before .before .before .args in
     let k = came (a .source .now) (a .kinds .now) (a .places .now) (a .values .now) (start .pre .1 .1 .0) (start .pre .1 .1 .1 .0) (c .before .before .a2 .given .0 .0)

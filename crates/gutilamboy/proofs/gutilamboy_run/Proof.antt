@@ -20,4 +20,4 @@ returns c =
 
 pub gutilamboy-run-spec : {M : Type 1} → statement M
 gutilamboy-run-spec =
-    tie.close (tie.spec (search needs) (search needs) (search needs) (λ c. search needs) (λ c. search needs) (λ c. search needs) returns)
+    tie.close (tie.spec (λ c κs. search needs) (λ c κs. search needs) (λ c κs. search needs) (λ c. search needs) (λ c. search needs) (λ c. search needs) returns)

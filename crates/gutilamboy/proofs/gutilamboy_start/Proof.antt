@@ -10,5 +10,5 @@ use Rattle.gutilamboy.proofs.gutilamboy_start.Tie as tie
 
 pub gutilamboy-start-spec : {M : Type 1} → statement M
 gutilamboy-start-spec = tie.close (tie.spec
-    (search needs) (search needs)
+    (λ c κs. search needs) (λ c κs. search needs)
     (λ c. ap (λ (s : List ℕ). startLeft (c .before .start .result .status) s) (c .state-words .ensures) ∙ ap ofStart (c .before .start .ensures)))

@@ -19,4 +19,4 @@ returns c =
     ap (λ (s : List ℕ). left (steppedWords (stepped .result)) s (stepped .last .1 .1 .0)) (c .before .state-words .ensures) ∙ ap ofStep f
 
 pub gutilamboy-step-spec : {M : Type 1} → statement M
-gutilamboy-step-spec = tie.close (tie.spec (search needs) (search needs) (search needs) (λ c. search needs) returns)
+gutilamboy-step-spec = tie.close (tie.spec (λ c κs. search needs) (λ c κs. search needs) (λ c κs. search needs) (λ c. search needs) returns)

@@ -8,5 +8,5 @@ use Rattle.gutilamboy.proofs.gutilamboy_translate.Tie as tie
 
 pub gutilamboy-translate-spec : {M : Type 1} → statement M
 gutilamboy-translate-spec = tie.close (tie.spec
-    (search needs) (λ c. search needs) (λ c. search needs)
+    (λ c κs. search needs) (λ c. search needs) (λ c. search needs)
     (λ c. ap ofTranslation (c .before .before .before .before .before .translate .ensures)))

@@ -19,10 +19,10 @@ pub main-spec : {M : Type 1} → statement M
 main-spec =
     tie.close
     (tie.spec
-    (λ c. search needs) (search needs) (λ c. search needs) (λ c. search needs) (λ c. search needs) (search needs) (λ c. search needs)
+    (λ c. search needs) (λ c κs. search needs) (λ c. search needs) (λ c. search needs) (λ c. search needs) (λ c κs. search needs) (λ c. search needs)
     array-share-prefix-source
     slice-aggregate-answer
     (λ c. sym (length-replicate {A = ℕ} _ 0))
     (λ c κs. le-of-eq (sym (length-replicate {A = ℕ} _ 0)))
-    (λ c. search needs) (search needs) (λ c. search needs)
+    (λ c. search needs) (λ c κs. search needs) (λ c. search needs)
     (λ c. search needs))

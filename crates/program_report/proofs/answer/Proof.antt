@@ -36,7 +36,7 @@ pub answer-spec : {M : Type 1} → statement M
 answer-spec =
     tie.close
     (tie.spec
-    (search needs) (search needs)
+    (λ c κs. search needs) (λ c κs. search needs)
     slice-reshare-prefix-write
     slice-aggregate-write
     write-requires

@@ -29,7 +29,7 @@ pub listing-spec : {M : Type 1} → statement M
 listing-spec =
     tie.close
     (tie.spec
-    (λ c. search needs) (λ c. search needs) (search needs) (search needs) (search needs) (λ c. search needs)
+    (λ c. search needs) (λ c. search needs) (λ c κs. search needs) (λ c κs. search needs) (λ c κs. search needs) (λ c. search needs)
     returns
     (λ c. search needs)
     (λ c. accepted-text _ _ _ _ (c .before .before .before .before .before .translate .ensures) (c .before .if1 .left) .within)

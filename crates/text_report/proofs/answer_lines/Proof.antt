@@ -5,4 +5,4 @@ use Rattle.text_report.proofs.answer_lines.Statement.{statement}
 use Rattle.text_report.proofs.answer_lines.Tie as tie
 
 pub answer-lines-spec : {M : Type 1} → statement M
-answer-lines-spec = tie.close (tie.spec (search needs) (λ c. c .summary .ensures))
+answer-lines-spec = tie.close (tie.spec (λ c κs. search needs) (λ c. c .summary .ensures))

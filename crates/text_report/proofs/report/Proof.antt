@@ -10,5 +10,5 @@ pub report-spec : {M : Type 1} → statement M
 report-spec =
     tie.close
     (tie.spec
-    (λ c. search needs) (λ c. search needs) (search needs) (search needs)
+    (λ c. search needs) (λ c. search needs) (λ c κs. search needs) (λ c κs. search needs)
     (λ c. c .answer-lines .ensures ∙ reported _ _ _ _ (c .before .before .before .translate .ensures)))

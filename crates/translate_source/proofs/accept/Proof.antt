@@ -18,7 +18,7 @@ pub accept-spec : {M : Type 1} → statement M
 accept-spec =
     tie.close
     (tie.spec
-    (search needs)
+    (λ c κs. search needs)
     (λ c κs. let start = c .before .before .before .before .before .before .before .before in let a = c .before .before .before .before .before .before .before .before .args in
     let q = start .pre .1 .0 in let p = start .pre .1 .1 in let e = sym (p .rows-are) in (
       subst (λ (k : ℕ). 0 < k) e (some-row q),

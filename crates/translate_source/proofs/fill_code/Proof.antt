@@ -11,7 +11,7 @@ use Rattle.translate_source.proofs.fill_code.Tie as tie
 
 pub fill-code-spec : {M : Type 1} → statement M
 fill-code-spec = tie.close (tie.spec
-    (search needs) (search needs) (λ c. search needs)
+    (λ c κs. search needs) (λ c κs. search needs) (λ c. search needs)
     (λ c. let image = c .before .before .before .before .before .before .image in let a = c .before .before .before .before .before .before .before .before .before .before .args in
     λ q s h e l. let w = subst (λ (k : ℕ). Wrote (a .code .now) 0 (image-code (process-at (a .rows .now) (k - 1))) (image .last .1 .1 .0) (image .result)) e (image .ensures) in
     (c .before .before .clear-bytes .ensures ∙ image-filled q (a .rows .now) s h l w, image-written q (a .rows .now) s h w .1)))

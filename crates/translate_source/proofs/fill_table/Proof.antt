@@ -13,7 +13,7 @@ pub fill-table-spec : {M : Type 1} → statement M
 fill-table-spec =
     tie.close
     (tie.spec
-    (λ c. search needs) (search needs) (λ c. search needs) (search needs) (λ c. search needs)
+    (λ c. search needs) (λ c κs. search needs) (λ c. search needs) (λ c κs. search needs) (λ c. search needs)
     (λ c.
     let copy-words = c .before .before .before .before .before .before .copy-words in let start = c .before .before .before .before .before .before .before .before .before .before in
     let a = c .before .before .before .before .before .before .before .before .before .before .args in let n = row-words * a .count in

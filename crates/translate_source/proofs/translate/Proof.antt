@@ -12,7 +12,7 @@ pub translate-spec : {M : Type 1} → statement M
 translate-spec =
     tie.close
     (tie.spec
-    (search needs) (λ c. search needs) (search needs) (λ c. search needs)
+    (λ c κs. search needs) (λ c. search needs) (λ c κs. search needs) (λ c. search needs)
     (λ c κs. let a2 = c .before .before .before .before .a2 in let analyse = c .before .before .before .before .before .before .analyse in
     let a = c .before .before .before .before .before .before .before .before .before .before .before .args in
     let f = subst (Analysed (front (a .source .now) (length (a .table .now)) (length (a .code .now))) (analyse .last .1 .1 .1 .0)) (a2 .given .1) (analyse .ensures) in
