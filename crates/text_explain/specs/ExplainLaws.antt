@@ -1,22 +1,21 @@
 -- What the answer of a translation tells of the source, and how long an explanation is. Laws; assumes nothing.
-use mathlib.Core.Path.{_≡_, refl, sym, ap, subst, _∙_}
+use mathlib.Core.Path.{_≡_, refl, sym, ap, _∙_}
 use mathlib.Core.Bool.{Bool, true, false}
-use mathlib.Core.List.{List, [], _∷_, _++_}
-use Prim.Native.Nat.{ℕ, suc, _+_, _*_, _≤_, _<_}
+use mathlib.Core.List.{List, _++_}
+use Prim.Native.Nat.{ℕ, _+_, _≤_}
 use native.Mathlib.Omega.{arith}
 use lib.Dec.{eqb, leb}
 use lib.ListN.{length, length-append, length-take}
 use lib.Seq.{take-all}
-use borrow.Author.Tests.{leb-true, leb-false}
+use borrow.Author.Tests.{leb-true}
 use Rattle.arm_word.specs.Choice.{pick}
 use Rattle.arm_word.specs.ChoiceLaws.{by-test}
 use Rattle.x_tokens.specs.TokenList as token
-use Rattle.x_program.specs.Tree.{Program}
 use Rattle.x_verdict.specs.Front.{Outcome, refused, accepted, tokened, front}
 use Rattle.x_verdict.specs.Refused.{refusal, accepted-sound}
 use Rattle.arm_state.specs.State.{needed}
 use Rattle.text_lines.specs.Ascii.{ascii}
-use Rattle.text_lines.specs.Text.{fitted, decimal, entry}
+use Rattle.text_lines.specs.Text.{fitted}
 use Rattle.text_lines.specs.LineLaws.{length-digits}
 use Rattle.text_position.specs.Position.{line-of, column-of, shown-line, caret-line}
 use Rattle.text_position.specs.PositionLaws.{shown-fits, caret-fits}

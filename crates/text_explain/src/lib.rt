@@ -1,6 +1,5 @@
 // The explanation of a source, for rule authors: sizes and names of an accepted one, place and reason of a refused one.
 ghost use mathlib.Core.Path.{_≡_};
-ghost use mathlib.Core.List.{_++_};
 ghost use Prim.Native.Nat.{_≤_, min};
 ghost use lib.ListN.{length};
 ghost use Rattle.text_lines.specs.Text.{written};

@@ -1,8 +1,8 @@
 -- How long the table of names is: names have 32 bytes at most, and a source 1,024 tokens. Laws; assumes nothing.
-use mathlib.Core.Path.{_≡_, refl, sym, ap, subst, _∙_}
+use mathlib.Core.Path.{_≡_, refl, ap, subst}
 use mathlib.Core.Bool.{Bool, true, false}
 use mathlib.Core.List.{List, [], _∷_, _++_}
-use Prim.Native.Nat.{ℕ, zero, suc, _+_, _-_, _*_, _<_, _≤_}
+use Prim.Native.Nat.{ℕ, suc, _+_, _-_, _*_, _<_, _≤_}
 use native.Mathlib.Omega.{arith}
 use lib.Dec.{eqb}
 use lib.ListN.{length, length-append, length-take, length-replicate, drop}
@@ -13,8 +13,8 @@ use Rattle.x_tokens.specs.TokenList as token
 use Rattle.x_tokens.specs.TokenList.{Entry}
 use Rattle.x_tokens.specs.SourceLaws as source-laws
 use Rattle.x_tokens.specs.SourceLaws.{Placed, outcome-sound}
-use Rattle.x_grammar.specs.Grammar.{Token, number, name, mark, Constant, literal, named, Specification, var, array, val, commented, Process, text-process}
-use Rattle.x_grammar.specs.Grammar.{text-constant, text-specification, text-specifications, text-program}
+use Rattle.x_grammar.specs.Grammar.{Token, number, name, mark, Constant, literal, named, Specification, var, array, val, commented, text-process}
+use Rattle.x_grammar.specs.Grammar.{text-constant, text-specification, text-specifications}
 use Rattle.x_grammar.specs.Grammar as grammar
 use Rattle.x_grammar.specs.TokenArrays.{token-of}
 use Rattle.x_grammar.specs.Automaton as automaton

@@ -9,7 +9,7 @@ use native.Mathlib.Numerals.{add-one}
 use lib.Dec.{eqb, ltb}
 use lib.ListN.{length, getD, set, List·getD-eq-default}
 use lib.Seq.{getD-set-same, getD-set-other}
-use borrow.Author.Tests.{eqb-true, eqb-false, ltb-true, ltb-false}
+use borrow.Author.Tests.{eqb-true, ltb-true, ltb-false}
 use Rattle.arm_word.specs.Choice.{pick}
 use Rattle.arm_word.specs.ChoiceLaws.{by-test}
 use Rattle.x_spelling.specs.Kinds as kind
@@ -20,7 +20,7 @@ use Rattle.x_grammar.specs.Unread.{unread-cons, unread-end}
 use Rattle.x_grammar.specs.Automaton as automaton
 use Rattle.x_grammar.specs.Automaton.{reads}
 use Rattle.x_grammar.specs.GrammarExact.{accepted-text}
-use Rattle.x_names.specs.Scope.{Meaning, variable, array, constant, Entry, Scope, same, lookup, word-of, empty-scope, meaning-of, constant-word, declare, declare-all}
+use Rattle.x_names.specs.Scope.{Meaning, variable, array, constant, Entry, Scope, same, lookup, word-of, empty-scope, constant-word, declare, declare-all}
 use Rattle.front_names_table.specs.View.{text-at}
 use Rattle.front_names_judge.specs.Judge.{constant-at, specification-at, width}
 use Rattle.front_names_bind.specs.Here.{specification-here, comment-here}
@@ -99,6 +99,10 @@ module _ (source places values : List ℕ) where
       → found (set declared k t) (set words k w) (suc k) n ≡ pick (same (text-at source places values t) n) w (found declared words k n)
   unfolding found
   found-more declared words n k t w d l = rw (getD-set-same declared k t 0 d, getD-set-same words k w 0 l, found-kept declared words n k t w k (omega arith)) refl
+
+  -- the same for the name at token t
+  abbrev pub val-found : List ℕ → List ℕ → ℕ → ℕ → ℕ
+  val-found declared words count t = found declared words count (text-at source places values t)
 
 -- ── the kind of the next token ──
 

@@ -1,8 +1,7 @@
 // The table of the names that a source declares.
 ghost use mathlib.Core.Path.{_≡_};
 ghost use mathlib.Core.List.{[], _∷_, _++_};
-ghost use Prim.Native.Nat.{_+_, _-_, _<_, _≤_};
-ghost use lib.ListN.{length, getD};
+ghost use Prim.Native.Nat.{_+_, _-_, _<_};
 ghost use Rattle.front_names_table.specs.View.{«text-at»};
 ghost use Rattle.text_lines.specs.Text.{written, fitted, decimal};
 ghost use Rattle.text_buffer.specs.Buffer.{left, placed};

@@ -1,9 +1,8 @@
 -- Where a place of a source stands, and how its line is shown. Definitions; assumes nothing.
 -- LF ends a line; every other byte, CR too, is a column. The place after the last byte is a place; one past it counts as that.
 use Prim.Native.Nat.{ℕ, suc, _+_, _-_}
-use mathlib.Core.Bool.{Bool}
 use mathlib.Core.List.{List, [], _∷_, _++_, map}
-use lib.Dec.{eqb, leb, ltb}
+use lib.Dec.{eqb, ltb}
 use lib.ListN.{length, take, drop, replicate}
 use Rattle.arm_word.specs.Choice.{pick}
 

@@ -1,6 +1,6 @@
 // Line and column of a place of a source, and its line as it is shown, with a caret below the place.
 ghost use mathlib.Core.Path.{_≡_};
-ghost use mathlib.Core.List.{[], _∷_, _++_, map};
+ghost use mathlib.Core.List.{_++_, map};
 ghost use Prim.Native.Nat.{_+_, _≤_, _<_, min};
 ghost use lib.ListN.{length, take};
 ghost use Rattle.text_lines.specs.Text.{written, fitted};

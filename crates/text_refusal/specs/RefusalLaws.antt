@@ -1,14 +1,12 @@
 -- The steps of the search for the token at a place. Laws; assumes nothing.
-use mathlib.Core.Path.{_≡_, refl, sym, ap, _∙_}
-use mathlib.Core.Bool.{Bool, true, false}
-use mathlib.Core.List.{List, [], _∷_}
+use mathlib.Core.Path.{_≡_, ap}
+use mathlib.Core.List.{List}
 use Prim.Native.Nat.{ℕ, suc, _+_, _-_, _<_, _≤_}
 use native.Mathlib.Omega.{arith}
 use native.Mathlib.Numerals.{add-one}
 use lib.ListN.{getD}
 use borrow.Author.Tests.{le-leb, lt-leb}
-use Rattle.x_tokens.specs.TokenList.{Entry, entries}
-use Rattle.text_refusal.specs.declared.Near.{Near}
+use Rattle.x_tokens.specs.TokenList.{entries}
 use Rattle.text_refusal.specs.Refusal.{near-in, no-token}
 
 module _ (ks ps vs : List ℕ) (place : ℕ) where

@@ -1,12 +1,11 @@
 -- `text_explain::place_line` meets its contract: words and numbers were added to an empty line, and they fit.
 -- Assumes nothing.
-use mathlib.Core.Path.{_≡_, sym, ap, _∙_}
-use mathlib.Core.List.{List, [], _∷_, _++_}
+use mathlib.Core.Path.{ap, _∙_}
+use mathlib.Core.List.{List, _++_}
 use Prim.Native.Nat.{ℕ, _+_}
 use Rattle.text_lines.specs.Ascii.{ascii}
 use Rattle.text_lines.specs.Text.{written, fitted, decimal, entry}
 use Rattle.text_lines.specs.LineLaws.{joined}
-use Rattle.text_position.specs.Position.{line-of, column-of}
 use Rattle.text_explain.specs.Explain as spec
 use Rattle.text_explain.specs.ExplainLaws.{place-fits}
 use borrow.Author.Needs.{needs}

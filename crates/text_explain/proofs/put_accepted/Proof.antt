@@ -1,6 +1,6 @@
 -- `text_explain::put_accepted` meets its contract: three texts, one after another.
 -- Assumes nothing.
-use mathlib.Core.Path.{_≡_, ap, _∙_}
+use mathlib.Core.Path.{ap, _∙_}
 use mathlib.Core.List.{List, _++_}
 use Prim.Native.Nat.{ℕ}
 use Rattle.text_lines.specs.Text.{written}

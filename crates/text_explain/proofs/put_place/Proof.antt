@@ -1,8 +1,7 @@
 -- `text_explain::put_place` meets its contract: three lines, one after another.
 -- Assumes nothing.
-use mathlib.Core.Path.{_≡_, ap, _∙_}
-use mathlib.Core.List.{List, _++_}
-use Prim.Native.Nat.{ℕ}
+use mathlib.Core.Path.{_∙_}
+use mathlib.Core.List.{_++_}
 use Rattle.text_lines.specs.Text.{written}
 use Rattle.text_buffer.specs.Buffer.{placed}
 use Rattle.text_buffer.specs.BufferLaws.{then}

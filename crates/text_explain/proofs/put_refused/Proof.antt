@@ -1,6 +1,6 @@
 -- `text_explain::put_refused` meets its contract: the reason after the place, or after the word alone.
 -- Assumes nothing.
-use mathlib.Core.Path.{_≡_, refl, sym, ap, _∙_}
+use mathlib.Core.Path.{refl, sym, ap, _∙_}
 use mathlib.Core.List.{List, _++_}
 use Prim.Native.Nat.{ℕ}
 use Rattle.arm_word.specs.ChoiceLaws.{pick-t, pick-f}

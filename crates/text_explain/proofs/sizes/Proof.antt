@@ -1,8 +1,8 @@
 -- `text_explain::sizes` meets its contract: five texts were added to an empty line, and they fit.
 -- Assumes nothing.
-use mathlib.Core.Path.{_≡_, sym, ap, _∙_}
+use mathlib.Core.Path.{ap, _∙_}
 use mathlib.Core.List.{List, _++_}
-use Prim.Native.Nat.{ℕ, _+_, _*_}
+use Prim.Native.Nat.{ℕ, _+_}
 use Rattle.text_lines.specs.Ascii.{ascii}
 use Rattle.text_lines.specs.Text.{written, fitted, entry}
 use Rattle.text_lines.specs.LineLaws.{joined}

@@ -1,7 +1,7 @@
 -- `text_names::data_head` meets its contract: sort, two numbers and two spaces were added to an empty line.
 -- Assumes nothing.
-use mathlib.Core.Path.{_≡_, sym, ap, _∙_}
-use mathlib.Core.List.{List, [], _∷_, _++_}
+use mathlib.Core.Path.{ap, _∙_}
+use mathlib.Core.List.{List, _++_}
 use Prim.Native.Nat.{ℕ}
 use Rattle.text_lines.specs.Ascii.{ascii}
 use Rattle.text_lines.specs.Text.{written, fitted, decimal}

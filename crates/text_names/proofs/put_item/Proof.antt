@@ -1,15 +1,14 @@
 -- `text_names::put_item` meets its contract, sort by sort; heads and tails fit in a line.
 -- Assumes nothing.
-use mathlib.Core.Path.{_≡_, refl, sym, ap, _∙_}
-use mathlib.Core.List.{List, [], _∷_, _++_}
+use mathlib.Core.Path.{_≡_, ap, _∙_}
+use mathlib.Core.List.{List, _++_}
 use Prim.Native.Nat.{ℕ}
 use native.Mathlib.Omega.{arith}
 use borrow.Author.Tests.{eq-eqb, ne-eqb}
-use Rattle.arm_word.specs.Choice.{pick}
 use Rattle.arm_word.specs.ChoiceLaws.{pick-t, pick-f}
 use Rattle.text_lines.specs.Ascii.{ascii}
 use Rattle.text_lines.specs.Text.{written, fitted}
-use Rattle.text_buffer.specs.Buffer.{Placed, placed}
+use Rattle.text_buffer.specs.Buffer.{placed}
 use Rattle.text_names.specs.Names.{data-head, val-head, val-tail}
 use Rattle.text_names.specs.Lines.{head-fits}
 use Rattle.text_names.specs.Walk.{item-line}

@@ -2,7 +2,7 @@ use lib.ListN.{getD, List·getD-eq-default}
 use mathlib.Core.List.{[]}
 -- `text_names::put_names` meets its contract. The loop's invariant is `Walking`: the lines of the names before token `i` are put.
 -- Assumes nothing.
-use mathlib.Core.Path.{_≡_, refl, sym, ap, _∙_}
+use mathlib.Core.Path.{_≡_, refl, sym, _∙_}
 use mathlib.Core.List.{List}
 use Prim.Native.Nat.{ℕ, _+_, _-_, _<_, _≤_}
 use native.Mathlib.Omega.{arith}

@@ -1,14 +1,11 @@
 -- `text_names::put_signed` meets its contract, by its test.
 -- Assumes nothing.
-use mathlib.Core.Path.{_≡_, sym, ap, _∙_}
+use mathlib.Core.Path.{_≡_, ap, _∙_}
 use mathlib.Core.List.{List, [], _∷_, _++_}
 use Prim.Native.Nat.{ℕ, _-_, _+_, _<_}
 use native.Mathlib.Omega.{arith}
-use borrow.Author.Tests.{lt-ltb, le-ltb}
-use Rattle.arm_word.specs.ChoiceLaws.{pick-t, pick-f}
 use Rattle.text_lines.specs.Text.{written, fitted, decimal}
 use Rattle.text_lines.specs.LineLaws.{joined}
-use Rattle.text_names.specs.Names as spec
 use Rattle.text_names.specs.Lines.{signed-low, signed-high}
 use borrow.Author.Needs.{needs}
 use Rattle.text_names.proofs.put_signed.Statement.{statement}

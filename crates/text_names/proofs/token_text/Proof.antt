@@ -1,7 +1,6 @@
 -- `text_names::token_text` meets its contract: place and value of the token, from its arrays.
 -- Assumes nothing.
 use mathlib.Core.Path.{_∙_}
-use Prim.Native.Nat.{ℕ}
 use Rattle.front_names_table.specs.View.{text}
 use borrow.Author.Needs.{needs}
 use Rattle.text_names.proofs.token_text.Statement.{statement}

@@ -1,6 +1,6 @@
 -- `text_names::val_tail` meets its contract: the sign of equality, the value and a line feed were added to an empty line, and they fit.
 -- Assumes nothing.
-use mathlib.Core.Path.{_≡_, sym, ap, _∙_}
+use mathlib.Core.Path.{ap, _∙_}
 use mathlib.Core.List.{List, [], _∷_, _++_}
 use Prim.Native.Nat.{ℕ}
 use Rattle.text_lines.specs.Ascii.{ascii}

@@ -1,6 +1,6 @@
 -- `text_position::caret_line` meets its contract: spaces, the caret and a line feed were added to an empty line, and they fit.
 -- Assumes nothing.
-use mathlib.Core.Path.{_≡_, sym, ap, _∙_}
+use mathlib.Core.Path.{_≡_, ap, _∙_}
 use mathlib.Core.List.{List, [], _∷_, _++_}
 use Prim.Native.Nat.{ℕ, _-_}
 use Rattle.text_lines.specs.Text.{written, fitted}

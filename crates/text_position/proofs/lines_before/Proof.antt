@@ -1,10 +1,9 @@
 -- `text_position::lines_before` meets its contract: the bytes before the place.
 -- Assumes nothing.
-use mathlib.Core.Path.{_≡_, sym, ap, _∙_}
-use mathlib.Core.List.{List}
+use mathlib.Core.Path.{sym, ap, _∙_}
 use Prim.Native.Nat.{ℕ}
 use native.Mathlib.Omega.{arith}
-use lib.ListN.{length, take, length-take}
+use lib.ListN.{take, length-take}
 use lib.Seq.{length-take-le}
 use Rattle.text_position.specs.Position as spec
 use Rattle.text_position.specs.PositionLaws.{take-within}

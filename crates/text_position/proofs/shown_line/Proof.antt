@@ -1,15 +1,15 @@
 -- `text_position::shown_line` meets its contract: the slice that is shown is the definition's, and it fits in a line.
 -- Assumes nothing.
-use mathlib.Core.Path.{_≡_, sym, ap, _∙_}
+use mathlib.Core.Path.{sym, ap, _∙_}
 use mathlib.Core.List.{List, [], _∷_, _++_, map}
 use Prim.Native.Nat.{ℕ, _+_, _-_, _≤_, min}
 use native.Mathlib.Omega.{arith}
-use lib.ListN.{length, take, drop, length-take, length-drop}
+use lib.ListN.{take, drop, length-take}
 use lib.Seq.{length-take-le}
 use Rattle.text_lines.specs.Text.{written, fitted}
 use Rattle.text_lines.specs.LineLaws.{joined}
 use Rattle.text_position.specs.Position as spec
-use Rattle.text_position.specs.PositionLaws.{rest-of, shown-part, shown-fits}
+use Rattle.text_position.specs.PositionLaws.{shown-part, shown-fits}
 use borrow.Author.Needs.{needs}
 use Rattle.text_position.proofs.shown_line.Statement.{statement}
 use Rattle.text_position.proofs.shown_line.Tie as tie

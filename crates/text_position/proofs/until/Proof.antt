@@ -1,11 +1,9 @@
 -- `text_position::until` meets its contract. The loop's invariant: no line feed stands before `i`.
 -- Assumes nothing.
-use mathlib.Core.Path.{_≡_, refl, sym, ap, _∙_}
-use mathlib.Core.List.{List}
-use Prim.Native.Nat.{ℕ, _+_, _-_, _≤_, _<_}
+use mathlib.Core.Path.{_≡_, ap}
+use Prim.Native.Nat.{_+_, _-_, _≤_, _<_}
 use native.Mathlib.Omega.{arith}
-use lib.ListN.{length, drop, getD, drop-of-length-le}
-use borrow.Author.Needs.{needs}
+use lib.ListN.{length, drop, drop-of-length-le}
 use Rattle.text_position.specs.Position as spec
 use Rattle.text_position.specs.PositionLaws.{until-here, until-more}
 use Rattle.text_position.proofs.until.Statement.{statement}

@@ -1,13 +1,12 @@
 -- `text_refusal::near_in` meets its contract. The loop's invariant: what is looked for is looked for from token `i` on.
 -- Assumes nothing.
-use mathlib.Core.Path.{_≡_, refl, sym, ap, _∙_}
+use mathlib.Core.Path.{_≡_, sym, ap, _∙_}
 use mathlib.Core.List.{List}
 use Prim.Native.Nat.{ℕ, _+_, _-_, _≤_, _<_}
 use native.Mathlib.Omega.{arith}
 use lib.ListN.{getD}
 use borrow.Author.Needs.{needs}
 use Rattle.x_tokens.specs.TokenList.{entries}
-use Rattle.text_refusal.specs.declared.Near.{Near}
 use Rattle.text_refusal.specs.Refusal.{near-in, no-token}
 use Rattle.text_refusal.specs.RefusalLaws.{near-start, near-end, near-here, near-next}
 use Rattle.text_refusal.proofs.near_in.Statement.{statement}
