@@ -3,6 +3,7 @@ use Prim.Native.Nat.{ℕ}
 use mathlib.Core.Bool.{Bool, true}
 use mathlib.Core.List.{List, [], _∷_, _++_}
 use lib.Dec.{eqb, leb}
+use Rattle.x_tokens.specs.Refusals as refusal
 use Rattle.arm_word.specs.Choice.{pick}
 use Rattle.arm_state.specs.State.{needed}
 use Rattle.text_lines.specs.Ascii.{ascii}
@@ -36,7 +37,7 @@ accepted-text source t = sizes t ++ (names-head ++ names-of source)
 
 -- "1 ... 0", "7 ... 0", "13 ... 0", "14 ... 0": these concern the source as a whole, and show no place
 unfoldable pub placeless : ℕ → Bool
-placeless n = pick (eqb n 1) true (pick (eqb n 7) true (leb 13 n))
+placeless n = pick (eqb n refusal.long-source) true (pick (eqb n refusal.deep-program) true (leb refusal.short-table n))
 
 unfoldable pub place-line : List ℕ → ℕ → List ℕ
 place-line source place = ascii "refused: line " ++ (decimal (line-of source place) ++ (ascii ", column " ++ (decimal (column-of source place) ++ (10 ∷ []))))

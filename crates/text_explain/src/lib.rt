@@ -12,6 +12,7 @@ use text_buffer::append;
 use text_buffer::append_line;
 use text_lines::Line;
 use translate_source::Translation;
+use x_tokens::refusal;
 
 // The sizes of an accepted source, a line each.
 fn sizes(t: Translation) -> Line
@@ -39,13 +40,13 @@ fn put_accepted(source: &[u8], t: Translation, out: &mut [u8]) -> usize
 fn placeless(n: u32) -> bool
     ensures { λ r. ⌜ r ≡ spec.placeless n ⌝ }
 {
-    if n == 1 {
+    if n == refusal::LONG_SOURCE {
         return true;
     }
-    if n == 7 {
+    if n == refusal::DEEP_PROGRAM {
         return true;
     }
-    13 <= n
+    refusal::SHORT_TABLE <= n
 }
 
 // Line and column of a place.

@@ -4,6 +4,7 @@ use Prim.Native.Nat.{ℕ}
 use mathlib.Core.Bool.{Bool}
 use mathlib.Core.List.{List, [], _∷_, _++_}
 use lib.Dec.{eqb, leb}
+use Rattle.x_tokens.specs.Refusals as refusal
 use Rattle.arm_word.specs.Choice.{pick}
 use Rattle.x_spelling.specs.Kinds as kind
 use Rattle.x_spelling.specs.Characters.{one-of}
@@ -17,26 +18,26 @@ use Rattle.text_refusal.specs.declared.Near.{Near}
 
 unfoldable pub early-sentence : ℕ → List ℕ
 early-sentence n =
-    pick (eqb n 1) (ascii "1: the source has more than 16,384 bytes\n")
-    (pick (eqb n 2) (ascii "2: no token stands here: an unknown character, a comment without its second |, or a broken literal\n")
-    (pick (eqb n 3) (ascii "3: the number is too large: at most 2147483647, or #FFFFFFFF\n")
-    (pick (eqb n 4) (ascii "4: the name has more than 32 characters\n")
-    (pick (eqb n 5) (ascii "5: the source has more than 1,024 tokens, comments counted: this is the first of the others\n")
+    pick (eqb n refusal.long-source) (ascii "1: the source has more than 16,384 bytes\n")
+    (pick (eqb n refusal.broken-token) (ascii "2: no token stands here: an unknown character, a comment without its second |, or a broken literal\n")
+    (pick (eqb n refusal.large-number) (ascii "3: the number is too large: at most 2147483647, or #FFFFFFFF\n")
+    (pick (eqb n refusal.long-name) (ascii "4: the name has more than 32 characters\n")
+    (pick (eqb n refusal.many-tokens) (ascii "5: the source has more than 1,024 tokens, comments counted: this is the first of the others\n")
     (ascii "7: an expression or a process is nested more than 32 deep\n")))))
 
 unfoldable pub late-sentence : ℕ → List ℕ
 late-sentence n =
-    pick (eqb n 8) (ascii "8: the name is not declared before this place\n")
-    (pick (eqb n 9) (ascii "9: the name is declared already\n")
-    (pick (eqb n 10) (ascii "10: the name is of the wrong sort here: an array takes a subscript, a var none, a val no new value; a constant is a val\n")
-    (pick (eqb n 11) (ascii "11: the length of the array is not 1 to 8,192\n")
-    (pick (eqb n 12) (ascii "12: with this name the source has more than 256 names or 8,192 data words\n")
-    (pick (eqb n 13) (ascii "13: the table is too short for so many tokens\n")
+    pick (eqb n refusal.not-declared) (ascii "8: the name is not declared before this place\n")
+    (pick (eqb n refusal.declared-twice) (ascii "9: the name is declared already\n")
+    (pick (eqb n refusal.wrong-kind) (ascii "10: the name is of the wrong sort here: an array takes a subscript, a var none, a val no new value; a constant is a val\n")
+    (pick (eqb n refusal.bad-length) (ascii "11: the length of the array is not 1 to 8,192\n")
+    (pick (eqb n refusal.too-much) (ascii "12: with this name the source has more than 256 names or 8,192 data words\n")
+    (pick (eqb n refusal.short-table) (ascii "13: the table is too short for so many tokens\n")
     (ascii "14: the code buffer is too short for so many tokens\n"))))))
 
 -- every number but 6
 abbrev pub sentence : ℕ → List ℕ
-sentence n = pick (leb n 7) (early-sentence n) (late-sentence n)
+sentence n = pick (leb n refusal.deep-program) (early-sentence n) (late-sentence n)
 
 -- ── 6: the token at the place, and the two before it ──
 
@@ -107,7 +108,7 @@ grammar-text n = met-sentence (n .met) ++ hint n
 -- ── the whole ──
 
 unfoldable pub reason-of : List ℕ → ℕ → ℕ → List ℕ
-reason-of source n place = pick (eqb n 6) (grammar-text (near (token.outcome source) place)) (sentence n)
+reason-of source n place = pick (eqb n refusal.ungrammatical) (grammar-text (near (token.outcome source) place)) (sentence n)
 
 -- no reason has more bytes
 abbrev pub reason-limit : ℕ

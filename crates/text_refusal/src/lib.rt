@@ -14,6 +14,7 @@ use text_buffer::append_line;
 use text_lines::Line;
 use x_spelling::kind;
 use x_tokens::Scanned;
+use x_tokens::refusal;
 
 const NO_TOKEN: u8 = 0;
 
@@ -37,21 +38,21 @@ fn line(text: &[u8]) -> Line
 fn early_sentence(n: u32) -> Line
     ensures { λ r. ⌜ written r ≡ fitted (spec.«early-sentence» n) ⌝ }
 {
-    if n == 1 {
+    if n == refusal::LONG_SOURCE {
         return line(b"1: the source has more than 16,384 bytes\n");
     }
-    if n == 2 {
+    if n == refusal::BROKEN_TOKEN {
         return line(
             b"2: no token stands here: an unknown character, a comment without its second |, or a broken literal\n",
         );
     }
-    if n == 3 {
+    if n == refusal::LARGE_NUMBER {
         return line(b"3: the number is too large: at most 2147483647, or #FFFFFFFF\n");
     }
-    if n == 4 {
+    if n == refusal::LONG_NAME {
         return line(b"4: the name has more than 32 characters\n");
     }
-    if n == 5 {
+    if n == refusal::MANY_TOKENS {
         return line(
             b"5: the source has more than 1,024 tokens, comments counted: this is the first of the others\n",
         );
@@ -63,24 +64,24 @@ fn early_sentence(n: u32) -> Line
 fn late_sentence(n: u32) -> Line
     ensures { λ r. ⌜ written r ≡ fitted (spec.«late-sentence» n) ⌝ }
 {
-    if n == 8 {
+    if n == refusal::NOT_DECLARED {
         return line(b"8: the name is not declared before this place\n");
     }
-    if n == 9 {
+    if n == refusal::DECLARED_TWICE {
         return line(b"9: the name is declared already\n");
     }
-    if n == 10 {
+    if n == refusal::WRONG_KIND {
         return line(
             b"10: the name is of the wrong sort here: an array takes a subscript, a var none, a val no new value; a constant is a val\n",
         );
     }
-    if n == 11 {
+    if n == refusal::BAD_LENGTH {
         return line(b"11: the length of the array is not 1 to 8,192\n");
     }
-    if n == 12 {
+    if n == refusal::TOO_MUCH {
         return line(b"12: with this name the source has more than 256 names or 8,192 data words\n");
     }
-    if n == 13 {
+    if n == refusal::SHORT_TABLE {
         return line(b"13: the table is too short for so many tokens\n");
     }
     line(b"14: the code buffer is too short for so many tokens\n")
@@ -90,7 +91,7 @@ fn late_sentence(n: u32) -> Line
 fn sentence(n: u32) -> Line
     ensures { λ r. ⌜ written r ≡ fitted (spec.sentence n) ⌝ }
 {
-    if n <= 7 {
+    if n <= refusal::DEEP_PROGRAM {
         return early_sentence(n);
     }
     late_sentence(n)

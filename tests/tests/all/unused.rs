@@ -35,6 +35,11 @@ fn words(line: &str) -> impl Iterator<Item = &str> {
     line.split(|c: char| c.is_whitespace() || "(){}[],;⌜⌝&".contains(c)).filter(|word| !word.is_empty())
 }
 
+/// Without the marks around names of definitions that aren't names of code.
+fn unquoted(text: &str) -> String {
+    text.replace(['«', '»'], "")
+}
+
 /// The file of a path of `use`: `Rattle.CRATE.specs.File` and `Rattle.CRATE.specs.File`, likewise of proofs; and
 /// the rest of the path. What the code declares is in no file of definitions.
 fn file_of(path: &str) -> Option<(String, Vec<String>)> {
@@ -64,6 +69,7 @@ fn take_use(held: &mut Held, line: &str) {
 /// A file of definitions or of a proof, by its lines' indentation: a definition has its signature, its clauses and what
 /// stands deeper below them; the head of a module belongs to each definition in it.
 fn read_definitions(text: &str) -> Held {
+    let text = unquoted(text);
     let mut held = Held::default();
     let mut heads: Vec<(usize, Vec<String>)> = Vec::new();
     let mut current: Option<(usize, String)> = None;
@@ -138,6 +144,7 @@ fn read_definitions(text: &str) -> Held {
 /// A file of code, by its items' first lines: functions and constants, those of an `impl` too. An exported function and
 /// a program's `main` are used from outside. Structures and enumerations are left out.
 fn read_code(text: &str) -> Held {
+    let text = &unquoted(text);
     let mut held = Held::default();
     let mut current: Option<String> = None;
     for line in text.lines().map(|line| line.split("//").next().expect("a beginning")) {
