@@ -3,6 +3,7 @@
 //!     measure source TOKENS KIND    writes a source of so many tokens
 //!     measure translate FILE        translates a file once, for a tool that counts instructions
 //!     measure stack FILE...         the stack that a translation of each of the files takes
+//!     measure run FILE              100,000 instructions of a program on each machine, for a tool that counts instructions
 //!     measure speed FILE...         how long the proved machine takes beside the plain interpreter
 //!     measure translation FILE...   how long a translation takes beside the second translator
 //!     measure bytes FILE...         tokens and image bytes of files
@@ -27,10 +28,11 @@ fn main() {
             let status = translate(&source).0.status;
             println!("| {} | {status} | {} |", name(file), stack::taken(&[source])[0]);
         }),
+        ["run", file] => run(file),
         ["speed", ref files @ ..] => speed(files),
         ["translation", ref files @ ..] => translation(files),
         ["bytes", ref files @ ..] => files.iter().for_each(|file| bytes(file)),
-        _ => panic!("measure source|translate|stack|speed|translation|bytes"),
+        _ => panic!("measure source|translate|stack|run|speed|translation|bytes"),
     }
 }
 
@@ -87,6 +89,18 @@ fn source(tokens: usize, kind: &str) -> String {
 
 /// A run of one of the machines: status, number and count.
 type Run = fn(&mut arm::State, &[u8], &mut [u32], u64) -> (u32, u32, u64);
+
+/// A run of each machine over the same program.
+fn run(file: &str) {
+    const LIMIT: u64 = 100_000;
+    let (got, image) = translate(&read(file));
+    assert_eq!(got.status, 0, "{file}");
+    for run in [proved::run as Run, plain::run] {
+        let mut memory = vec![0; needed_words(got.data, got.depth)];
+        let (_, mut state) = proved::start(&image, &memory, got.data, got.depth);
+        assert_eq!(run(&mut state, &image, &mut memory, LIMIT), (0, 0, LIMIT), "{file}");
+    }
+}
 
 /// How long `gutilamboy_run` takes beside the plain interpreter: ten million instructions of each program, the best of
 /// five runs by turns, memory cleared before each.
