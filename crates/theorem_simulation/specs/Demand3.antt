@@ -6,7 +6,7 @@
 -- * one fixed image, or one that finishes at once: `ended`, with the D words of the source's own end; `sees` and `reaches`, with its trace.
 -- * doing nothing: `reaches`, for every access that the source comes to make; `ends`.
 -- * working only for the first instruction: `each` and `sees` are of every instruction of every list of calls, `reaches` of every number of moves.
--- * a made-up count, of a run or in the step rule: `counted`; of a fault, which no image has: Example's `fault-counts`.
+-- * a made-up count, of a run or in the step rule: `counted`; of a fault, which no image has: Demand3Example's `fault-counts`.
 -- * writing where it likes and putting things right at the end: `within`, `untouched`, `sp-low`, `sp-high`, of every instruction.
 use mathlib.Core.Path.{_≡_}
 use mathlib.Core.Bool.{true}
