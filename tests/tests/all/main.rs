@@ -4,6 +4,7 @@ use std::io::Write;
 use std::path::{Path, PathBuf};
 
 mod boundary;
+mod calls;
 mod cases;
 mod documents;
 mod ebnf;
@@ -12,6 +13,7 @@ mod front;
 mod header;
 mod language;
 mod machine;
+mod memories;
 mod pages;
 mod programs;
 mod refusals;

@@ -1,11 +1,11 @@
 //! Images run by the proved machine under lists of calls, instruction by instruction beside the second interpreter,
 //! against the source's run.
 
+use crate::calls::{calls, translated, Answer, Arrays, Call, Machines, Made};
 use crate::print;
 use reference::front::{accept, Accepted};
 use reference::generate::{edges, starting_words, valid_source, Random};
 use reference::meaning::{AccessKind, State, Thing};
-use reference::table::Row;
 use tests::arm::{self, Touch, DATA};
 use tests::{needed_words, proved, second, Translation, Translator, CODE_BYTES, TABLE_WORDS};
 
@@ -17,17 +17,27 @@ const MOVES_AN_INSTRUCTION: u64 = 1_100;
 /// What a number of runs went through.
 #[derive(Default)]
 pub struct Seen {
-    programs: u64,
+    pub programs: u64,
     instructions: u64,
     calls: u64,
     accesses: u64,
     /// Stores to variables.
     changes: u64,
     /// Ended by SVC 0, 1, 2, and not ended within the limit.
-    ends: [u64; 4],
+    pub ends: [u64; 4],
 }
 
 impl Seen {
+    /// One more program, with the calls made, its accesses and its stores to variables.
+    pub fn add(&mut self, made: &Made, accesses: u64, changes: u64) {
+        self.programs += 1;
+        self.calls += made.calls;
+        self.instructions += made.instructions;
+        self.accesses += accesses;
+        self.changes += changes;
+        self.ends[made.end.unwrap_or(3) as usize] += 1;
+    }
+
     pub fn print(&self, what: &str) {
         let [finish, stop, bad, going] = self.ends;
         print(&format!(
@@ -72,77 +82,34 @@ impl<'p> Source<'p> {
     }
 }
 
-/// One program on both machines, and its source's run.
-struct Pair<'p> {
-    accepted: &'p Accepted<'p>,
-    image: &'p [u8],
-    arrays: Vec<(u32, u32)>,
+/// The source's run as the image's instructions go on.
+struct Watched<'p> {
+    arrays: Arrays,
     declared: u32,
     needed: usize,
     source: Source<'p>,
-    /// The second interpreter's state, and the proved machine's.
-    state: arm::State,
-    memory: Vec<u32>,
-    proved_state: arm::State,
-    proved_memory: Vec<u32>,
     /// Changes of declared words and entries of the access list so far, and the latter alone.
     touches: u64,
     accesses: u64,
     instructions: u64,
-    /// The number of the SVC that was come to.
-    end: Option<u32>,
 }
 
-impl<'p> Pair<'p> {
-    fn start(accepted: &'p Accepted<'p>, got: Translation, image: &'p [u8], memory: Vec<u32>) -> Pair<'p> {
-        let (status, state) = arm::start(image, &memory, got.data, got.depth);
-        assert_eq!(status, 0, "start");
-        assert_eq!(proved::start(image, &memory, got.data, got.depth), (0, state.clone()), "start");
-        let needed = needed_words(got.data, got.depth);
-        assert_eq!(proved::start(image, &memory[..needed - 1], got.data, got.depth).0, 33, "start");
-        let arrays =
-            accepted.rows.iter().filter(|row| row[0] == 2).map(|&[_, o, l, _]: &Row| (o, l)).collect();
-        Pair {
-            accepted,
-            image,
-            arrays,
-            declared: got.data,
-            needed,
-            source: Source::start(accepted, &memory),
-            proved_state: state.clone(),
-            state,
-            proved_memory: memory.clone(),
-            memory,
-            touches: 0,
-            accesses: 0,
-            instructions: 0,
-            end: None,
-        }
-    }
-
-    /// One instruction of the second interpreter; what holds after every one.
-    fn instruction(&mut self) -> (u32, u32) {
-        let mut touch = None;
-        let answer = arm::watched_step(&mut self.state, self.image, &mut self.memory, &mut touch);
-        assert!(answer.0 <= 1, "fault {} at {:#x}", answer.0, self.state.pc);
+impl Watched<'_> {
+    /// What holds after every instruction.
+    fn instruction(&mut self, state: &arm::State, touch: Option<Touch>) {
         if let Some(touch) = touch {
             self.touched(touch);
         }
         let (low, high) = (DATA + 4 * self.declared, DATA + 4 * self.needed as u32);
-        assert!((low..=high).contains(&self.state.sp), "sp {:#x}", self.state.sp);
+        assert!((low..=high).contains(&state.sp), "sp {:#x}", state.sp);
         self.instructions += 1;
-        if answer.0 == 1 {
-            self.end = Some(answer.1);
-        }
-        answer
     }
 
     /// "the loads and stores inside an array's words are listed the same way". What changes a declared word or is
     /// listed is the source's next; so after every instruction both are as after some number of moves.
     fn touched(&mut self, touch: Touch) {
         assert!(!touch.store || (touch.word as usize) < self.needed, "{touch:?} is past the needed words");
-        let array =
-            self.arrays.iter().any(|&(offset, length)| (offset..offset + length).contains(&touch.word));
+        let array = self.arrays.have(touch.word);
         if array || touch.store && touch.word < self.declared {
             let want = self.source.next(MOVES_AN_INSTRUCTION * (self.instructions + 1));
             assert_eq!(Some(touch), want, "after {} others", self.touches);
@@ -150,78 +117,56 @@ impl<'p> Pair<'p> {
             self.accesses += u64::from(array);
         }
     }
+}
 
-    /// The two machines agree: states always, memory wholly where it is small.
-    fn agree(&self, wholly: bool) {
-        assert_eq!(self.proved_state, self.state);
-        if wholly || self.memory.len() < 100 {
-            assert!(self.proved_memory == self.memory, "memory");
-        }
+/// One program on both machines, and its source's run.
+struct Pair<'p> {
+    accepted: &'p Accepted<'p>,
+    machines: Machines<'p>,
+    watched: Watched<'p>,
+}
+
+impl<'p> Pair<'p> {
+    fn start(accepted: &'p Accepted<'p>, got: Translation, image: &'p [u8], memory: &[u32]) -> Pair<'p> {
+        let watched = Watched {
+            arrays: Arrays::of(accepted),
+            declared: got.data,
+            needed: needed_words(got.data, got.depth),
+            source: Source::start(accepted, memory),
+            touches: 0,
+            accesses: 0,
+            instructions: 0,
+        };
+        Pair { accepted, machines: Machines::start(image, got, memory.to_vec()), watched }
     }
 
-    fn step(&mut self) {
-        let want = self.instruction();
-        let got = proved::step(&mut self.proved_state, self.image, &mut self.proved_memory);
-        assert_eq!(got, want, "step");
-        self.agree(false);
-    }
-
-    fn run(&mut self, limit: u64) {
-        let mut want = (0, 0, limit);
-        for done in 0..limit {
-            let (status, number) = self.instruction();
-            if status == 1 {
-                want = (1, number, done + 1);
-                break;
-            }
-        }
-        // a run that ends before its limit ends alike under any larger one
-        let asked = if want.0 == 1 && want.2 < limit { u64::MAX } else { limit };
-        let got = proved::run(&mut self.proved_state, self.image, &mut self.proved_memory, asked);
-        assert_eq!(got, want, "run to {limit}");
-        self.agree(false);
+    fn call(&mut self, call: Call) -> Answer {
+        let watched = &mut self.watched;
+        let answer = self.machines.call(call, |state, touch| watched.instruction(state, touch));
+        self.machines.agree();
+        answer
     }
 
     /// After the list: the end, or how far the source has come for certain.
-    fn finish(&mut self, starting: &[u32]) {
-        self.agree(true);
-        assert!(self.memory[self.needed..] == starting[self.needed..], "words past the needed ones");
-        if let Some(number) = self.end {
-            let further = self.source.next(MOVES_AN_INSTRUCTION * (self.instructions + 1));
+    fn finish(&mut self, starting: &[u32], end: Option<u32>) {
+        let (memory, watched) = (&self.machines.memory, &mut self.watched);
+        assert!(memory[watched.needed..] == starting[watched.needed..], "words past the needed ones");
+        if let Some(number) = end {
+            let further = watched.source.next(MOVES_AN_INSTRUCTION * (watched.instructions + 1));
             assert_eq!(further, None, "at the end");
-            assert_eq!(self.source.run.end.map(|end| end as u32), Some(number), "end");
-            assert!(
-                self.source.run.words == self.memory[..self.declared as usize],
-                "declared words at the end"
-            );
-            assert_eq!(self.source.run.accesses.len() as u64, self.accesses, "accesses at the end");
+            let run = &watched.source.run;
+            assert_eq!(run.end.map(|end| end as u32), Some(number), "end");
+            assert!(run.words == memory[..watched.declared as usize], "declared words at the end");
+            assert_eq!(run.accesses.len() as u64, watched.accesses, "accesses at the end");
         } else {
             let mut sure = Source::start(self.accepted, starting);
             let mut touches = 0;
-            while sure.next(self.instructions / INSTRUCTIONS_A_MOVE).is_some() {
+            while sure.next(watched.instructions / INSTRUCTIONS_A_MOVE).is_some() {
                 touches += 1;
             }
             assert!(sure.run.end.is_none(), "the source ended, the image did not");
-            assert!(touches <= self.touches, "an access or change that the image did not make");
+            assert!(touches <= watched.touches, "an access or change that the image did not make");
         }
-    }
-
-    /// A list of calls: steps, runs, or both, up to the limit, and some after the end.
-    fn calls(&mut self, random: &mut Random, limit: u64) -> u64 {
-        let style = random.below(4);
-        let mut after_end = random.below(4);
-        let mut calls = 0;
-        while self.instructions < limit && (self.end.is_none() || after_end > 0) {
-            after_end -= usize::from(self.end.is_some());
-            calls += 1;
-            match (style, random.below(5)) {
-                (0, _) | (1, 0 | 1) => self.step(),
-                (1, 2) => self.run(random.below(4) as u64),
-                (1 | 2, _) => self.run(random.below(100) as u64),
-                _ => self.run(limit),
-            }
-        }
-        calls
     }
 }
 
@@ -235,20 +180,12 @@ pub fn run_source(
     seen: &mut Seen,
 ) -> (Option<u32>, Vec<u32>) {
     let accepted = accept(source, TABLE_WORDS, CODE_BYTES).expect("accepted by the reference");
-    let mut table = vec![9; 4 * accepted.tokens];
-    let mut code = vec![9; 48 * accepted.tokens + 256];
-    let got = translator(source, &mut table, &mut code);
-    assert_eq!(got.status, 0, "status");
-    let image = &code[..got.code as usize];
-    let mut pair = Pair::start(&accepted, got, image, words.to_vec());
-    seen.calls += pair.calls(random, limit);
-    pair.finish(words);
-    seen.programs += 1;
-    seen.instructions += pair.instructions;
-    seen.accesses += pair.accesses;
-    seen.changes += pair.touches - pair.accesses;
-    seen.ends[pair.end.unwrap_or(3) as usize] += 1;
-    (pair.end, pair.memory)
+    let (got, image) = translated(translator, source, &accepted);
+    let mut pair = Pair::start(&accepted, got, &image, words);
+    let made = calls(random, limit, |call| pair.call(call));
+    pair.finish(words, made.end);
+    seen.add(&made, pair.watched.accesses, pair.watched.touches - pair.watched.accesses);
+    (made.end, pair.machines.memory)
 }
 
 /// The same from random words; a failure shows the source.
@@ -262,7 +199,7 @@ pub fn run_anyhow(translator: Translator, source: &[u8], random: &mut Random, li
 }
 
 /// Prints its source if it is dropped, which is if a comparison failed.
-struct Shown<'s>(&'s [u8]);
+pub struct Shown<'s>(pub &'s [u8]);
 
 impl Drop for Shown<'_> {
     fn drop(&mut self) {
@@ -278,24 +215,31 @@ fn accesses(source: &[u8]) -> bool {
     run.accesses.len() > 2
 }
 
+/// The most instructions of a program; of a few, ten times as many.
+pub const LIMIT: u64 = 2_000;
+
+/// Compares a source by a random list of calls of so many instructions.
+pub type Compare = fn(Translator, &[u8], &mut Random, u64, &mut Seen);
+
 /// A program for each seed, every second one with accesses.
-fn generated(translator: Translator, seeds: std::ops::Range<u64>, seen: &mut Seen) {
+pub fn generated(compare: Compare, translator: Translator, seeds: std::ops::Range<u64>, seen: &mut Seen) {
     for seed in seeds {
         let mut random = Random::new(seed);
         let mut source = valid_source(&mut random);
         while seed % 2 == 1 && !accesses(&source) {
             source = valid_source(&mut random);
         }
-        let limit = if seed % 50 == 0 { 20_000 } else { 2_000 };
-        run_anyhow(translator, &source, &mut random, limit, seen);
+        let limit = if seed % 50 == 0 { 10 * LIMIT } else { LIMIT };
+        compare(translator, &source, &mut random, limit, seen);
     }
 }
 
-fn accepted_edges(translator: Translator, seen: &mut Seen) {
+/// The accepted sources at the limits, each twice.
+pub fn accepted_edges(compare: Compare, translator: Translator, seen: &mut Seen) {
     let mut random = Random::new(17);
     for edge in edges().into_iter().filter(|edge| edge.status == 0) {
         for _ in 0..2 {
-            run_anyhow(translator, &edge.source, &mut random, 2_000, seen);
+            compare(translator, &edge.source, &mut random, LIMIT, seen);
         }
     }
 }
@@ -303,7 +247,7 @@ fn accepted_edges(translator: Translator, seen: &mut Seen) {
 #[test]
 fn generated_programs() {
     let mut seen = Seen::default();
-    generated(proved::translate, 100_000..121_000, &mut seen);
+    generated(run_anyhow, proved::translate, 100_000..121_000, &mut seen);
     assert!(seen.programs >= 20_000);
     assert!(seen.ends.iter().all(|&count| count > 100), "every end is seen");
     seen.print("generated programs");
@@ -312,7 +256,7 @@ fn generated_programs() {
 #[test]
 fn programs_at_the_limits() {
     let mut seen = Seen::default();
-    accepted_edges(proved::translate, &mut seen);
+    accepted_edges(run_anyhow, proved::translate, &mut seen);
     seen.print("programs at the limits");
 }
 
@@ -320,34 +264,36 @@ fn programs_at_the_limits() {
 #[test]
 fn the_second_images_pass() {
     let mut seen = Seen::default();
-    generated(second::translate, 200_000..201_000, &mut seen);
-    accepted_edges(second::translate, &mut seen);
+    generated(run_anyhow, second::translate, 200_000..201_000, &mut seen);
+    accepted_edges(run_anyhow, second::translate, &mut seen);
     seen.print("second translation's images");
+}
+
+/// The second translation, every halfword of some kinds replaced in its image.
+pub fn replaced(source: &[u8], table: &mut [u32], code: &mut [u8], halfwords: &[(u16, u16)]) -> Translation {
+    let got = second::translate(source, table, code);
+    for half in code[..got.code as usize].chunks_exact_mut(2) {
+        let found = halfwords.iter().find(|(from, _)| half == from.to_le_bytes());
+        if let Some((_, to)) = found {
+            half.copy_from_slice(&to.to_le_bytes());
+        }
+    }
+    got
 }
 
 /// And these don't: one that finishes at once, one that reads an element before the test for it, one whose subscripts
 /// are never bad, one whose `if` goes the wrong way, one whose operands are swapped.
 #[test]
 fn wrong_images_are_noticed() {
-    /// The second image with every halfword of one kind replaced.
-    fn with(source: &[u8], table: &mut [u32], code: &mut [u8], from: u16, to: u16) -> Translation {
-        let got = second::translate(source, table, code);
-        for half in code[..got.code as usize].chunks_exact_mut(2) {
-            if half == from.to_le_bytes() {
-                half.copy_from_slice(&to.to_le_bytes());
-            }
-        }
-        got
-    }
     fn finishes(source: &[u8], table: &mut [u32], code: &mut [u8]) -> Translation {
         let got = second::translate(source, table, code);
         code[..2].copy_from_slice(&[0x00, 0xdf]);
         got
     }
     // SVC 2 becomes SHLI r3,r3,0; BNE over a BL becomes BEQ; SUBR r0,r0,r1 becomes SUBR r0,r1,r0
-    let unchecked: Translator = |s, t, c| with(s, t, c, 0xdf02, 0x001b);
-    let wrong_way: Translator = |s, t, c| with(s, t, c, 0xd101, 0xd001);
-    let swapped: Translator = |s, t, c| with(s, t, c, 0x1a40, 0x1a08);
+    let unchecked: Translator = |s, t, c| replaced(s, t, c, &[(0xdf02, 0x001b)]);
+    let wrong_way: Translator = |s, t, c| replaced(s, t, c, &[(0xd101, 0xd001)]);
+    let swapped: Translator = |s, t, c| replaced(s, t, c, &[(0x1a40, 0x1a08)]);
     // the element is read before the test
     let early: Translator = |_, t, c| {
         second::translate(
