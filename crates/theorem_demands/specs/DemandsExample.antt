@@ -11,15 +11,14 @@ use Rattle.x_spelling.specs.Words.{same, word, middle-word, late-word}
 use Rattle.x_tokens.specs.Lexemes as lexemes
 use Rattle.x_tokens.specs.Lexemes.{double, single, symbol, lexeme}
 use Rattle.x_tokens.specs.TokenList.{scan, outcome}
-use Rattle.x_grammar.specs.Automaton.{run, reads}
+use Rattle.x_grammar.specs.Automaton as automaton
 use Rattle.x_names.specs.Complaints.{least}
 use Rattle.x_names.specs.Scope.{lookup}
 use Rattle.x_program.specs.Tree.{Program, var, data-words, assign, diadic, plus, constant}
 use Rattle.x_verdict.specs.Symbols.{entry-at, symbols, unread-place}
 use Rattle.x_verdict.specs.Front.{accepted, named, front}
 use Rattle.translate_rules.specs.ImageCode.{image}
-use Rattle.arm_machine.specs.MachineRun.{runOf}
-use Rattle.theorem_simulation.specs.Demand3.{Lent, EndsBy, started, Demand3}
+use Rattle.theorem_simulation.specs.Demand3.{Lent, run, call, EndsBy, started, Demand3}
 use Rattle.theorem_demands.specs.Demands.{Translates}
 use Rattle.theorem_demands.specs.DemandsProof.{front-translates, demands}
 
@@ -34,7 +33,7 @@ abbrev memory : List ℕ
 memory = replicate 13 0xFFFFFFFF
 
 accepted-five : front source 32 640 ≡ accepted 8 five
-unfolding front outcome scan lexeme lexemes.named lexemes.number double single symbol one-of digit-value name-character span numeral same word middle-word late-word reads run
+unfolding front outcome scan lexeme lexemes.named lexemes.number double single symbol one-of digit-value name-character span numeral same word middle-word late-word automaton.reads automaton.run
     symbols entry-at unread-place named least lookup
 accepted-five = refl
 
@@ -49,7 +48,7 @@ lent-five = record { words = omega arith; enough = lit≤ tt; few = lit≤ tt }
 pub demand-five : Demand3 five memory
 demand-five = demands .three source 32 640 five memory translates-five lent-five
 
--- its source's run ends after seven moves by finish with 5 in x; so every run of the image with a limit that is large enough ends by SVC 0 with 5 in x
-pub ends-five : (l : ℕ) × ((limit : ℕ) → l ≤ limit → EndsBy five 0 (5 ∷ []) (runOf limit (image five) memory (started five memory)))
+-- its source's run ends after seven moves by finish with 5 in x; so every run of the image with a limit that is large enough ends by SVC 0 with 5 in x, with no access to an array
+pub ends-five : (l : ℕ) × ((limit : ℕ) → l ≤ limit → EndsBy five 0 (5 ∷ []) [] (call (image five) (run limit) memory (started five memory)))
 unfolding data-words
 ends-five = demand-five .ends 7 0 refl

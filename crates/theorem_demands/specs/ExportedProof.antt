@@ -8,17 +8,48 @@ use Rattle.x_program.specs.Tree.{Program}
 use Rattle.translate_rules.specs.ImageCode.{image}
 use Rattle.arm_state.specs.State.{base, freshOf}
 use Rattle.arm_state.specs.declared.Machine.{Machine}
-use Rattle.x_meaning.specs.SourceRun.{moves, begin}
-use Rattle.arm_machine.specs.MachineRun.{runOf}
+use Rattle.arm_word.specs.Access.{Access}
 use Rattle.arm_machine.specs.StepLaws.{step-length, step-registers}
 use Rattle.arm_machine.specs.Iterations.{run-length, run-registers}
 use Rattle.arm_machine.specs.declared.Started.{Started}
 use Rattle.gutilamboy_numbers.specs.Numbers.{stateWords}
 use Rattle.gutilamboy_numbers.specs.NumberLaws.{state-back}
-use Rattle.gutilamboy.specs.Calls.{ofStart, runCall}
-use Rattle.theorem_simulation.specs.Demand3.{Each, D, N, Lent, Call, step, run, calls, started, Answered, EndsBy, Demand3}
+use Rattle.gutilamboy.specs.Calls.{left, ofStart, runCall}
+use Rattle.theorem_simulation.specs.Demand3.{Each, D, N, Lent, Call, step, run, Called, call, calls, started, Answered, EndsBy, Demand3}
 use Rattle.theorem_demands.specs.DemandsProof.{demands}
-use Rattle.theorem_demands.specs.ExportedDemand.{exported-calls, first-words, InOrder, EndsSo, AtBoundary, Exported}
+use Rattle.theorem_demands.specs.ExportedDemand.{exported, exported-calls, first-words, InOrder, EndsSo, AtBoundary, Exported}
+
+-- ── what an exported call leaves, by what the call hands back ──
+
+-- a run's answer has its count
+abbrev count-words : Call → Called → List ℕ
+count-words step a = []
+count-words (run n) a = a .count ∷ []
+
+abbrev answer-words : Call → Called → List ℕ
+answer-words k a = a .status ∷ a .number ∷ count-words k a
+
+module _ (code : List ℕ) (k : Call) (w : List ℕ) (m : Machine) where
+  exported-is : length (m .regs) ≡ 8 → let a = call code k w m in exported code k w (stateWords m) ≡ left (answer-words k a) (stateWords (a .machine)) (a .words)
+  exported-is r = by k
+    where
+      by : (k : Call) → let a = call code k w m in exported code k w (stateWords m) ≡ left (answer-words k a) (stateWords (a .machine)) (a .words)
+      by step = rw (state-back m r)
+      by (run n) = rw (state-back m r)
+
+  call-registers : length (call code k w m .machine .regs) ≡ length (m .regs)
+  call-registers = by k
+    where
+      by : (k : Call) → length (call code k w m .machine .regs) ≡ length (m .regs)
+      by step = step-registers code w m
+      by (run n) = run-registers n code w m
+
+  call-length : length (call code k w m .words) ≡ length w
+  call-length = by k
+    where
+      by : (k : Call) → length (call code k w m .words) ≡ length w
+      by step = step-length code w m
+      by (run n) = run-length n code w m
 
 module _ (p : Program) (memory : List ℕ) (lent : Lent p memory) (d : Demand3 p memory) where
   -- a list of exported calls from a state's words, beside the same calls from the state
@@ -26,31 +57,18 @@ module _ (p : Program) (memory : List ℕ) (lent : Lent p memory) (d : Demand3 p
       → Each (InOrder p memory) (exported-calls (image p) ks w (stateWords m))
   unfolding calls exported-calls
   each-left [] w m r l a = tt
-  each-left (step ∷ ks) w m r l a =
-      rw (state-back m r) (
+  each-left (k ∷ ks) w m r l a =
+      rw (exported-is (image p) k w m r) (
         record {
           answered = a .0 .not-refused;
           state-words = refl;
           sp-low = a .0 .kept .sp-low;
           sp-high = a .0 .kept .sp-high;
-          all-words = step-length (image p) w m ∙ l;
+          all-words = call-length (image p) k w m ∙ l;
           untouched = a .0 .kept .untouched;
           ended = a .0 .ended;
         },
-        each-left ks _ _ (step-registers (image p) w m ∙ r) (step-length (image p) w m ∙ l) (a .1),
-      )
-  each-left (run n ∷ ks) w m r l a =
-      rw (state-back m r) (
-        record {
-          answered = a .0 .not-refused;
-          state-words = refl;
-          sp-low = a .0 .kept .sp-low;
-          sp-high = a .0 .kept .sp-high;
-          all-words = run-length n (image p) w m ∙ l;
-          untouched = a .0 .kept .untouched;
-          ended = a .0 .ended;
-        },
-        each-left ks _ _ (run-registers n (image p) w m ∙ r) (run-length n (image p) w m ∙ l) (a .1),
+        each-left ks _ _ (call-registers (image p) k w m ∙ r) (call-length (image p) k w m ∙ l) (a .1),
       )
 
   started-is : started p memory ≡ freshOf (D p) (N p)
@@ -60,25 +78,26 @@ module _ (p : Program) (memory : List ℕ) (lent : Lent p memory) (d : Demand3 p
   unfolding freshOf
   fresh-words = ap (λ (sp : ℕ). 0 ∷ 0 ∷ 0 ∷ 0 ∷ 0 ∷ 0 ∷ 0 ∷ base ∷ sp ∷ 0 ∷ 0 ∷ 0 ∷ []) (omega (arith, lent .enough, lent .few))
 
-  started-words : stateWords (started p memory) ≡ first-words p
+  pub started-words : stateWords (started p memory) ≡ first-words p
   started-words = ap stateWords started-is ∙ fresh-words
 
-  eight : length (started p memory .regs) ≡ 8
+  pub eight : length (started p memory .regs) ≡ 8
   unfolding freshOf
   eight = ap (λ (m : Machine). length (m .regs)) started-is
 
-  run-ends : (limit n : ℕ) (words : List ℕ) → EndsBy p n words (runOf limit (image p) memory (started p memory)) → EndsSo p n words (runCall limit (image p) memory (first-words p))
-  run-ends limit n words e =
+  run-ends : (limit n : ℕ) (words : List ℕ) (trace : List Access) → EndsBy p n words trace (call (image p) (run limit) memory (started p memory))
+      → EndsSo p n words (runCall limit (image p) memory (first-words p))
+  run-ends limit n words trace e =
       subst (λ (s : List ℕ). EndsSo p n words (runCall limit (image p) memory s)) started-words
       (rw (state-back (started p memory) eight) (record { by-svc = e .by-svc; number = e .number; same-words = e .same-words }))
 
-  at-boundary : AtBoundary p memory
+  pub at-boundary : AtBoundary p memory
   at-boundary = record {
     starts = ap ofStart (d .starts) ∙ ap (λ (s : List ℕ). record { status = 0; state = s }) fresh-words;
     each = λ ks. subst (λ (s : List ℕ). Each (InOrder p memory) (exported-calls (image p) ks memory s)) started-words (each-left ks memory (started p memory) eight refl (d .answered ks));
-    ends = λ j n e. let l = d .ends j n e in (l .0, λ limit h. run-ends limit n (moves j (begin p memory) .words) (l .1 limit h));
+    ends = λ j n e. let l = d .ends j n e in (l .0, λ limit h. run-ends limit n _ _ (l .1 limit h));
   }
 
 -- THE corollary
-pub exported : Exported
-exported source table code p memory t l = at-boundary p memory l (demands .three source table code p memory t l)
+pub exported-demands : Exported
+exported-demands source table code p memory t l = at-boundary p memory l (demands .three source table code p memory t l)

@@ -18,11 +18,12 @@ use Rattle.arm_state.specs.State.{base, needed, freshOf}
 use Rattle.arm_machine.specs.Placed.{once-in}
 use Rattle.x_program.specs.Sound.{Sound}
 use Rattle.x_program.specs.SoundTree.{sound-resolved}
-use Rattle.theorem_simulation.specs.Abstract.{registers, machine, width}
+use Rattle.theorem_simulation.specs.Abstract.{registers, Abstract, machine, width}
 use Rattle.theorem_simulation.specs.Straight.{At, nil, _▸_, Holds, head-at, first-at, rest-at, address}
 use Rattle.theorem_simulation.specs.Places.{width-bytes, width-even}
 use Rattle.theorem_simulation.specs.Relation.{Setting, Limits, there, Related}
-use Rattle.theorem_simulation.specs.Concrete.{Point, Simulated}
+use Rattle.theorem_simulation.specs.Following.{Simulated}
+use Rattle.theorem_simulation.specs.Concrete.{Point, Matches}
 use Rattle.theorem_simulation.specs.Demand3.{Each, D, N, Lent}
 
 -- ── code stands where its bytes were put ──
@@ -80,6 +81,10 @@ setting p = record { declarations = p .declarations; code = image p; stack = 2 *
 abbrev pub first-point : Program → List ℕ → Point
 first-point p memory = record { state = freshOf (D p) (N p); words = memory; trace = [] }
 
+-- the abstract machine at first, by the declared words: all that it knows of memory
+abbrev pub abstract-of : Program → List ℕ → Abstract
+abstract-of p d = machine 0 (registers 0 0 0 0) (address (D p + (2 * N p + 8))) 0 (blank d (2 * N p + 8)) []
+
 module _ (p : Program) (sound : Sound p) (short : length (image p) ≤ 65536) (memory : List ℕ) (lent : Lent p memory) where
   pub limits : Limits (setting p)
   limits = record { few-data = sound .small; short-code = short; few-words = omega (arith, lent .enough, lent .few) }
@@ -94,7 +99,7 @@ module _ (p : Program) (sound : Sound p) (short : length (image p) ≤ 65536) (m
   declared : length (take (D p) memory) ≡ D p
   declared = length-take-le (D p) memory (omega (arith, lent .enough))
 
-  first-related : Related (setting p) (begin p memory) (machine 0 (registers 0 0 0 0) (address (D p + (2 * N p + 8))) 0 first-memory [])
+  pub first-related : Related (setting p) (begin p memory) (abstract-of p (take (D p) memory))
   unfolding image-code
   first-related = record {
     d = take (D p) memory;
@@ -114,7 +119,7 @@ module _ (p : Program) (sound : Sound p) (short : length (image p) ≤ 65536) (m
     target = refl;
     place = (
       (0, there, first-at (process-code (core-process (p .body))) _ stands-at-0, (_, there, head-at (rest-at (process-code (core-process (p .body))) _ stands-at-0))),
-      (record { resolved = sound-resolved p sound; shallow = omega arith }, refl, tt),
+      (record { resolved = sound-resolved p sound; shallow = omega arith }, tt),
     );
     memory = record {
       all = blank-length (take (D p) memory) (2 * N p + 8) ∙ rw declared;
@@ -129,26 +134,25 @@ module _ (p : Program) (sound : Sound p) (short : length (image p) ≤ 65536) (m
     };
   }
 
-  pub first-simulated : Simulated (setting p) memory (begin p memory) (first-point p memory)
+  pub first-matches : Matches (setting p) memory (abstract-of p (take (D p) memory)) (first-point p memory)
   unfolding freshOf address
-  first-simulated = record {
-    abstract-state = machine 0 (registers 0 0 0 0) (address (D p + (2 * N p + 8))) 0 first-memory [];
-    related = first-related;
-    matches = record {
-      lr = 0;
-      is = ap (λ (sp : ℕ). record { regs = registers 0 0 0 0; sp = sp; lr = 0; pc = 0; rs = 0 }) sp-is;
-      trace = refl;
-      agrees = record {
-        same = λ i v e.
-            let k = blank-known (take (D p) memory) (2 * N p + 8) i v e in
-            sym (getD-take (D p) memory i 0 (omega (arith, k .0, declared))) ∙ k .1;
-        enough = omega (arith, blank-length (take (D p) memory) (2 * N p + 8), declared, lent .enough);
-        all = refl;
-        untouched = λ i h. refl;
-      };
-      whole = blank-length (take (D p) memory) (2 * N p + 8) ∙ rw declared;
+  first-matches = record {
+    lr = 0;
+    is = ap (λ (sp : ℕ). record { regs = registers 0 0 0 0; sp = sp; lr = 0; pc = 0; rs = 0 }) sp-is;
+    trace = refl;
+    agrees = record {
+      same = λ i v e.
+          let k = blank-known (take (D p) memory) (2 * N p + 8) i v e in
+          sym (getD-take (D p) memory i 0 (omega (arith, k .0, declared))) ∙ k .1;
+      enough = omega (arith, blank-length (take (D p) memory) (2 * N p + 8), declared, lent .enough);
+      all = refl;
+      untouched = λ i h. refl;
     };
+    whole = blank-length (take (D p) memory) (2 * N p + 8) ∙ rw declared;
   }
     where
       sp-is : add base (4 * needed (D p) (N p)) ≡ address (D p + (2 * N p + 8))
       sp-is = omega (arith, lent .enough, lent .few)
+
+  pub first-simulated : Simulated (setting p) (Matches (setting p) memory) (begin p memory) (first-point p memory)
+  first-simulated = record { abstract-state = abstract-of p (take (D p) memory); related = first-related; follows = first-matches }

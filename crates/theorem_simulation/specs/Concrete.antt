@@ -1,26 +1,22 @@
--- The machine's own points, and that it simulates the source: the abstract machine's blocks, carried over. Definitions and lemmas; they rest on Bridge, MoveBlocks and Generic.
+-- The machine's own points, and that it follows the abstract machine (`follower`), so that it simulates the source. Definitions and lemmas; they rest on Bridge and Following.
 use mathlib.Core.Path.{_≡_, ap, _∙_}
 use mathlib.Core.Bool.{true}
-use mathlib.Core.Option.{none, some}
 use mathlib.Core.Logic.{_⊎_, inl, inr, ⊎-elim}
 use mathlib.Core.List.{List, _++_, append-nil}
 use Prim.Native.Nat.{ℕ, suc, _+_, _≤_, _<_}
 use native.Mathlib.Omega.{arith}
 use lib.ListN.{getD, length}
 use Rattle.arm_word.specs.Access.{Access}
-use Rattle.arm_encoding.specs.declared.Instr.the-variants.{Svc}
 use Rattle.x_meaning.specs.SourceRun.{State, move, moves, ends-with}
 use Rattle.arm_state.specs.Effects.{After, after, Effect, done, ended, stops, executeOf}
 use Rattle.arm_state.specs.declared.Machine.{Machine}
 use Rattle.arm_machine.specs.Step.{onceOf}
 use Rattle.arm_machine.specs.Trace.{listed}
-use Rattle.theorem_simulation.specs.Generic.{Run, here, more, Steps, Rests}
-use Rattle.theorem_simulation.specs.Abstract.{Abstract, machine, pc-of, sp-of, memory-of, trace-of}
-use Rattle.theorem_simulation.specs.Straight.{Holds, Goes, Path, address}
-use Rattle.theorem_simulation.specs.Straight as straight
-use Rattle.theorem_simulation.specs.Relation.{Setting, data-of, array-of, Limits, Related, Good}
-use Rattle.theorem_simulation.specs.Block.{Block, state-size}
-use Rattle.theorem_simulation.specs.MoveBlocks.{Stands, simulates, related-ends, related-trace}
+use Rattle.theorem_simulation.specs.Abstract.{Abstract, machine, sp-of, memory-of, trace-of}
+use Rattle.theorem_simulation.specs.Straight.{Goes, address}
+use Rattle.theorem_simulation.specs.Relation.{Setting, data-of, array-of, Limits, Good}
+use Rattle.theorem_simulation.specs.MoveBlocks.{Stands, related-ends, related-trace}
+use Rattle.theorem_simulation.specs.Following.{Simulated, Follower}
 use Rattle.theorem_simulation.specs.Bridge.{concrete, Agrees, Within, execute-follows}
 
 -- the machine's state, its words, and the trace so far
@@ -68,13 +64,7 @@ pub record Matches (E : Setting) (first : List ℕ) (m : Abstract) (x : Point) :
   pub agrees : Agrees first (memory-of m) (x .words)
   pub whole : length (memory-of m) ≡ data-of E + E .stack
 
--- a point of the machine and a state of the source, by way of an abstract one
-pub record Simulated (E : Setting) (first : List ℕ) (s : State) (x : Point) : Type 0 where
-  pub abstract-state : Abstract
-  pub related : Related E s abstract-state
-  pub matches : Matches E first abstract-state x
-
-pub seen-back : (E : Setting) (first : List ℕ) (s : State) (x : Point) → Seen E first (move s) x → Seen E first s x
+seen-back : (E : Setting) (first : List ℕ) (s : State) (x : Point) → Seen E first (move s) x → Seen E first s x
 seen-back E first s x v = record {
   j = suc (v .j);
   list = v .list;
@@ -87,11 +77,11 @@ seen-back E first s x v = record {
 
 module _ (E : Setting) (ok : Limits E) (first : List ℕ) where
   -- what an instruction of the abstract machine is on the machine
-  record Carried (m₁ : Abstract) (x : Point) : Type 0 where
-    completes : Completes E x
-    matches : Matches E first m₁ (step-point E x)
+  pub record Carried (m₁ : Abstract) (x : Point) : Type 0 where
+    pub completes : Completes E x
+    pub matches : Matches E first m₁ (step-point E x)
 
-  carried : (m m₁ : Abstract) (x : Point) → Matches E first m x → Goes (array-of E) (E .code) m m₁ → Carried m₁ x
+  pub carried : (m m₁ : Abstract) (x : Point) → Matches E first m x → Goes (array-of E) (E .code) m m₁ → Carried m₁ x
   carried (machine pc r sp rs mem l) m₁ x mt g =
       let i = g .instruction in
       let f = execute-follows (array-of E) first (E .code) (ok .short-code) pc r sp rs mem l m₁ (x .words) (mt .lr) (mt .agrees) (omega (arith, g .holds .inside, ok .short-code)) i (g .does) in
@@ -123,54 +113,33 @@ module _ (E : Setting) (ok : Limits E) (first : List ℕ) where
         does = d;
       }
 
-  -- a path of the abstract machine is a run of the machine
-  record Ran (s : State) (z : Abstract) (n : ℕ) (x : Point) : Type 0 where
-    last : Point
-    run : Run (step-point E) (Seen E first s) last n x
-    matches : Matches E first z last
-
-  path-run : (s : State) {z : Abstract} {n : ℕ} {m : Abstract} → Path (array-of E) (E .code) (Good E s) z n m → (x : Point) → Matches E first m x → Ran s z n x
-  path-run s straight.here x mt = record { last = x; run = here; matches = mt }
-  path-run s (straight.more {m = m} {m₁ = m₁} q g p) x mt =
-      let c = carried m m₁ x mt g in
-      let r = path-run s p (step-point E x) (c .matches) in
-      record { last = r .last; run = more (seen-of s m x mt q (inl (c .completes))) (r .run); matches = r .matches }
-
   -- where the abstract machine stands at an SVC, so does the machine, and stays
-  record Stopped (s : State) (x : Point) : Type 0 where
-    stays : step-point E x ≡ x
-    halts : Halts E s x
+  pub record Stopped (s : State) (n : ℕ) (x : Point) : Type 0 where
+    pub effect : effect-at E x ≡ stops (x .words) (ended (x .state) n)
+    pub stays : step-point E x ≡ x
+    pub halts : Halts E s x
 
-  stopped : (s : State) (m : Abstract) (x : Point) → Matches E first m x → (n : ℕ) → Holds (E .code) (pc-of m) (Svc n) → ends-with (s .end) n ≡ true → length (s .words) ≡ data-of E
-      → ((i : ℕ) → i < data-of E → getD (memory-of m) i none ≡ some (getD (s .words) i 0)) → Stopped s x
+  pub stopped : (s : State) (m : Abstract) (x : Point) → Matches E first m x → (b : Stands E s m) → Stopped s (b .number) x
   unfolding executeOf listed
-  stopped s (machine pc r sp rs mem l) x mt n f e d same =
-      let at : effect-at E x ≡ stops (x .words) (ended (x .state) n) = f .runs (x .words) (x .state) (ap (λ (m : Machine). m .pc) (mt .is)) in
+  stopped s (machine pc r sp rs mem l) x mt b =
+      let at : effect-at E x ≡ stops (x .words) (ended (x .state) (b .number)) = b .at .runs (x .words) (x .state) (ap (λ (m : Machine). m .pc) (mt .is)) in
       record {
+        effect = at;
         stays = rw at (ap (λ (t : List Access). record { state = x .state; words = x .words; trace = t }) (append-nil (x .trace)));
-        halts = record { number = n; effect = at; ends = e; declared = d; same = λ i h. mt .agrees .same i (getD (s .words) i 0) (same i h) };
+        halts = record { number = b .number; effect = at; ends = b .ends; declared = b .declared; same = λ i h. mt .agrees .same i (getD (s .words) i 0) (b .same i h) };
       }
 
-  -- every move, on the machine
-  pub simulates-point : (s : State) (x : Point) → Simulated E first s x
-      → Steps move (step-point E) state-size (Simulated E first) (Seen E first) s x ⊎ Rests move (step-point E) state-size (Simulated E first) (Seen E first) s x
-  simulates-point s x r = ⊎-elim block rests (simulates ok (r .related))
-    where
-      block : Block E s (r .abstract-state) → Steps move (step-point E) state-size (Simulated E first) (Seen E first) s x ⊎ Rests move (step-point E) state-size (Simulated E first) (Seen E first) s x
-      block b =
-          let c = path-run s (b .path) x (r .matches) in
-          inl (record { n = b .n; z = c .last; run = c .run; related = record { abstract-state = b .z; related = b .related; matches = c .matches }; falls = b .falls })
-
-      rests : Stands E s (r .abstract-state) → Steps move (step-point E) state-size (Simulated E first) (Seen E first) s x ⊎ Rests move (step-point E) state-size (Simulated E first) (Seen E first) s x
-      rests b =
-          let h = stopped s (r .abstract-state) x (r .matches) (b .number) (b .at) (b .ends) (b .declared) (b .same) in
-          inr (record { moves-no-more = b .stays; steps-no-more = h .stays; seen = seen-of s (r .abstract-state) x (r .matches) (b .good) (inr (0, h .halts)) })
+  -- the machine over the lent words follows the abstract machine
+  pub follower : Follower E (step-point E) (Matches E first) (Seen E first)
+  follower = record {
+    goes = λ s m m₁ x mt q g. let c = carried m m₁ x mt g in (seen-of s m x mt q (inl (c .completes)), c .matches);
+    rests = λ s m x mt b. let h = stopped s m x mt b in (h .stays, seen-of s m x mt (b .good) (inr (0, h .halts)));
+    back = seen-back E first;
+  }
 
   -- a source that has ended, and the machine at its SVC
-  pub ended-point : (s : State) (x : Point) (n : ℕ) → Simulated E first s x → ends-with (s .end) n ≡ true → Halts E s x
-  ended-point s x n r h =
-      let b = related-ends ok n (r .related) h in
-      stopped s (r .abstract-state) x (r .matches) (b .number) (b .at) (b .ends) (b .declared) (b .same) .halts
+  pub ended-point : (s : State) (x : Point) (n : ℕ) → Simulated E (Matches E first) s x → ends-with (s .end) n ≡ true → Halts E s x
+  ended-point s x n r h = stopped s (r .abstract-state) x (r .follows) (related-ends ok n (r .related) h) .halts
 
-  pub simulated-trace : (s : State) (x : Point) → Simulated E first s x → x .trace ≡ s .trace
-  simulated-trace s x r = r .matches .trace ∙ related-trace ok (r .related)
+  pub simulated-trace : (s : State) (x : Point) → Simulated E (Matches E first) s x → x .trace ≡ s .trace
+  simulated-trace s x r = r .follows .trace ∙ related-trace ok (r .related)

@@ -145,11 +145,12 @@ pub record Answered (p : Program) (memory : List ℕ) (a : Called) : Type 0 wher
   pub kept : Kept p memory (a .words) (a .machine)
   pub ended : a .status ≡ 1 → Ended p memory (a .words) (a .number)
 
--- a run that ended by SVC n with these D words
-pub record EndsBy (p : Program) (n : ℕ) (words : List ℕ) (r : RunAfter) : Type 0 where
-  pub by-svc : r .state .status ≡ 1
-  pub number : r .state .number ≡ n
-  pub same-words : take (D p) (r .words) ≡ words
+-- a call that ended by SVC n with these D words and this access list
+pub record EndsBy (p : Program) (n : ℕ) (words : List ℕ) (trace : List Access) (a : Called) : Type 0 where
+  pub by-svc : a .status ≡ 1
+  pub number : a .number ≡ n
+  pub same-words : take (D p) (a .words) ≡ words
+  pub same-trace : trace-of p (a .tries) ≡ trace
 
 pub record Demand3 (p : Program) (memory : List ℕ) : Type 0 where
   -- start is not refused: the machine that it gives is the fresh one
@@ -164,6 +165,6 @@ pub record Demand3 (p : Program) (memory : List ℕ) : Type 0 where
   -- "for every number of moves, some number of instructions does"
   pub reaches : (j : ℕ)
       → (n : ℕ) × (trace-of p (tried n (image p) memory (started p memory)) ≡ moves j (begin p memory) .trace)
-  -- demand 2: SVC n, if the source's run ends so: every run with a limit from some number on ends by it, with the same D words
-  pub ends : (j n : ℕ) → ends-with (moves j (begin p memory) .end) n ≡ true
-      → (l : ℕ) × ((limit : ℕ) → l ≤ limit → EndsBy p n (moves j (begin p memory) .words) (runOf limit (image p) memory (started p memory)))
+  -- demand 2: SVC n, if the source's run ends so: every run with a limit from some number on ends by it, with the same D words and the source's whole access list
+  pub ends : (j n : ℕ) → let s = moves j (begin p memory) in ends-with (s .end) n ≡ true
+      → (l : ℕ) × ((limit : ℕ) → l ≤ limit → EndsBy p n (s .words) (s .trace) (call (image p) (run limit) memory (started p memory)))

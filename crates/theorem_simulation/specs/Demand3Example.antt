@@ -26,26 +26,26 @@ use Rattle.arm_machine.specs.MachineRun.{runFrom, runOf}
 use Rattle.arm_machine.specs.Start.{startRefusal, startOf}
 use Rattle.arm_machine.specs.Trace.{listed}
 use Rattle.x_program.specs.Sound.{Sound, here}
-use Rattle.theorem_simulation.specs.Demand3.{Each, Lent, Call, step, run, Called, calls, Orderly, Answered, EndsBy, tried, trace-of, started, Demand3}
+use Rattle.theorem_simulation.specs.Demand3.{Each, Lent, Call, step, run, Called, call, calls, Orderly, Answered, EndsBy, tried, started, Demand3}
 use Rattle.theorem_simulation.specs.Demand3Proof.{demand3}
 
 -- var x; x := 2 + 3
-five : Program
+unfoldable pub five : Program
 five = record { declarations = var ∷ []; body = assign (record { row = 0; offset = 0 }) (diadic plus (constant 2) (constant 3)) }
 
 -- 13 needed words, and one more; among them the largest word
-lent-words : List ℕ
+unfoldable pub lent-words : List ℕ
 lent-words = 7 ∷ 1 ∷ 2 ∷ 3 ∷ 4 ∷ 5 ∷ 6 ∷ 7 ∷ 8 ∷ 9 ∷ 10 ∷ 11 ∷ 0xFFFFFFFF ∷ 99 ∷ []
 
-five-image : length (image five) ≡ 32
+pub five-image : length (image five) ≡ 32
 unfolding five image image-code process-code expression-code push-constant work-diadic-code assign-variable load-constant trailingZeros leadingZeros bytes bytes-of encoded-bytes encodeOf put
 five-image = refl
 
-five-sound : Sound five
+pub five-sound : Sound five
 unfolding five data-words
 five-sound = record { lengths = tt; small = lit≤ tt; names = lit≤ tt; shallow = lit≤ tt; body = (here, (lit< tt, lit< tt)) }
 
-five-lent : Lent five lent-words
+pub five-lent : Lent five lent-words
 unfolding five lent-words data-words
 five-lent = record { words = omega arith; enough = lit≤ tt; few = lit≤ tt }
 
@@ -53,11 +53,11 @@ five-demand : Demand3 five lent-words
 five-demand = demand3 five five-sound (rw five-image (lit≤ tt)) lent-words five-lent
 
 -- it ends by SVC 0 with 5 in x
-five-ends : EndsBy five 0 (5 ∷ []) (runOf 100 (image five) lent-words (started five lent-words))
+five-ends : EndsBy five 0 (5 ∷ []) [] (call (image five) (run 100) lent-words (started five lent-words))
 unfolding five lent-words image image-code process-code expression-code push-constant work-diadic-code assign-variable load-constant trailingZeros leadingZeros bytes bytes-of
-    encoded-bytes encodeOf put data-words startOf startRefusal refusalOf freshOf runOf runFrom onceOf fetchOf withSecond decodeOf find table executeOf exec.load exec.store slotOf
-    result takes next state.moves
-five-ends = record { by-svc = refl; number = refl; same-words = refl }
+    encoded-bytes encodeOf put data-words array-word startOf startRefusal refusalOf freshOf runOf runFrom tried stepOf onceOf fetchOf withSecond decodeOf find table executeOf
+    exec.load exec.store slotOf result takes next state.moves listed
+five-ends = record { by-svc = refl; number = refl; same-words = refl; same-trace = refl }
 
 -- ── the statement's clauses as they read for this program, each with its number: one that said less, or more, would not fit here ──
 
@@ -140,22 +140,14 @@ climb-access : moves 100 (begin climb zeros) .trace ≡ stored 1 0 0 ∷ []
 unfolding climb counter data-words signed-less
 climb-access = refl
 
--- so has the machine's
-climb-trace : trace-of climb (tried 120 (image climb) zeros (started climb zeros)) ≡ stored 1 0 0 ∷ []
-unfolding climb counter image image-code process-code expression-code push-constant push-variable check-subscript store-element repeat-code take-condition jump-over jump-back
-    less-than work-diadic-code assign-variable load-constant trailingZeros leadingZeros bytes bytes-of size encoded-bytes encodeOf put put-long narrow widen swap32 data-words
-    array-word startOf startRefusal refusalOf freshOf tried stepOf onceOf fetchOf withSecond decodeOf find table executeOf exec.load exec.store slotOf result takes next branch jump
-    link state.moves shift-left shift-right listed
-climb-trace = refl
-
--- and it ends by SVC 2 with the source's words
+-- it ends with these words
 climb-words : moves 100 (begin climb zeros) .words ≡ 1 ∷ 0 ∷ []
 unfolding climb counter data-words signed-less
 climb-words = refl
 
-climb-ends : EndsBy climb 2 (1 ∷ 0 ∷ []) (runOf 120 (image climb) zeros (started climb zeros))
+climb-ends : EndsBy climb 2 (1 ∷ 0 ∷ []) (stored 1 0 0 ∷ []) (call (image climb) (run 120) zeros (started climb zeros))
 unfolding climb counter image image-code process-code expression-code push-constant push-variable check-subscript store-element repeat-code take-condition jump-over jump-back
-    less-than work-diadic-code assign-variable load-constant trailingZeros leadingZeros bytes bytes-of size encoded-bytes encodeOf put put-long narrow widen swap32 data-words startOf
-    startRefusal refusalOf freshOf runOf runFrom onceOf fetchOf withSecond decodeOf find table executeOf exec.load exec.store slotOf result takes next branch jump link state.moves
-    shift-left shift-right
-climb-ends = record { by-svc = refl; number = refl; same-words = refl }
+    less-than work-diadic-code assign-variable load-constant trailingZeros leadingZeros bytes bytes-of size encoded-bytes encodeOf put put-long narrow widen swap32 data-words
+    array-word startOf startRefusal refusalOf freshOf runOf runFrom tried stepOf onceOf fetchOf withSecond decodeOf find table executeOf exec.load exec.store slotOf result takes next
+    branch jump link state.moves shift-left shift-right listed
+climb-ends = record { by-svc = refl; number = refl; same-words = refl; same-trace = refl }

@@ -1,4 +1,4 @@
--- Demands 2 and 3, proved: for every sound program and any lent words. The theorem is `demand3`; it rests on Begin, Concrete and Generic.
+-- Demands 2 and 3, proved: for every sound program and any lent words. The theorem is `demand3`; it rests on Begin, Concrete and Following.
 -- The instructions that a list of calls tries are a chain of points, each one step after the one before; at every point of it the simulation sees what the statement says.
 use mathlib.Core.Path.{_≡_, refl, sym, ap, subst, _∙_}
 use mathlib.Core.Bool.{true}
@@ -16,19 +16,20 @@ use Rattle.translate_rules.specs.ImageCode.{image}
 use Rattle.arm_state.specs.State.{freshOf}
 use Rattle.arm_state.specs.Effects.{Effect, ended}
 use Rattle.arm_state.specs.declared.Machine.{Machine}
-use Rattle.arm_machine.specs.Step.{step-count, refusalOf, stepOf}
+use Rattle.arm_machine.specs.Step.{refusalOf, stepOf}
 use Rattle.arm_machine.specs.MachineRun.{RunAfter, run-after, ran, runFrom, runOf}
 use Rattle.arm_machine.specs.Start.{startRefusal, startOf}
 use Rattle.arm_machine.specs.Trace.{listed}
 use Rattle.arm_machine.specs.declared.Started.{Started}
 use Rattle.x_program.specs.Sound.{Sound}
-use Rattle.theorem_simulation.specs.Demand3.{Each, D, N, needs, Lent, Call, step, run, tried, Called, call, calls, all-tried, trace-of, started, called, Kept, Ended, Orderly}
+use Rattle.theorem_simulation.specs.Demand3.{Each, D, N, needs, Lent, Call, run, tried, Called, call, calls, all-tried, trace-of, started, called, Kept, Ended, Orderly}
 use Rattle.theorem_simulation.specs.Demand3.{Answered, EndsBy, Demand3}
-use Rattle.theorem_simulation.specs.Generic.{times, times-stays, sees, reaches}
+use Rattle.theorem_simulation.specs.Iterated.{most, call-is-run}
+use Rattle.theorem_simulation.specs.Generic.{times, times-stays}
 use Rattle.theorem_simulation.specs.Straight.{address}
 use Rattle.theorem_simulation.specs.Relation.{Setting, data-of}
-use Rattle.theorem_simulation.specs.Block.{state-size}
-use Rattle.theorem_simulation.specs.Concrete.{Point, effect-at, step-point, Completes, Halts, Seen, Simulated, seen-back, simulates-point, ended-point, simulated-trace}
+use Rattle.theorem_simulation.specs.Following.{Simulated, Follower, always, arrives}
+use Rattle.theorem_simulation.specs.Concrete.{Point, effect-at, step-point, Completes, Halts, Seen, Matches, follower, ended-point, simulated-trace}
 use Rattle.theorem_simulation.specs.Begin.{setting, first-point, limits, first-simulated}
 
 -- the source's moves, as the generic part counts them
@@ -53,15 +54,19 @@ chain-append none d = d
 chain-append (also c) d = also (chain-append c d)
 
 module _ (p : Program) (sound : Sound p) (short : length (image p) ≤ 65536) (memory : List ℕ) (lent : Lent p memory) where
-  abbrev E : Setting
+  abbrev pub E : Setting
   E = setting p
 
   -- at x and ever after the simulation sees what it should
-  abbrev Sees : Point → Type 0
+  abbrev pub Sees : Point → Type 0
   Sees x = (i : ℕ) → Seen E memory (begin p memory) (times (step-point E) i x)
 
   later : (x : Point) → Sees x → Sees (step-point E x)
   later x v i = v (suc i)
+
+  pub further : (n : ℕ) (x : Point) → Sees x → Sees (times (step-point E) n x)
+  further zero x v = v
+  further (suc n) x v = further n (step-point E x) (later x v)
 
   needs-is : data-of E + E .stack ≡ needs p
   needs-is = omega arith
@@ -122,9 +127,10 @@ module _ (p : Program) (sound : Sound p) (short : length (image p) ≤ 65536) (m
   chain-trace {x} (also c) zero = (0, append-nil (x .trace))
   chain-trace {x} (also c) (suc i) = let r = chain-trace c i in (suc (r .0), sym (append-assoc (x .trace) _ _) ∙ r .1)
 
-  chain-sees : {x y : Point} {es : List Effect} → Chain E x es y → Sees x → Sees y
-  chain-sees none v = v
-  chain-sees (also {x = x} c) v = chain-sees c (later x v)
+  -- and after all of it that of its last point
+  chain-whole : {x y : Point} {es : List Effect} → Chain E x es y → x .trace ++ trace-of p es ≡ y .trace
+  chain-whole {x} none = append-nil (x .trace)
+  chain-whole {x} (also c) = sym (append-assoc (x .trace) _ _) ∙ chain-whole c
 
   -- ── a run ──
 
@@ -137,11 +143,11 @@ module _ (p : Program) (sound : Sound p) (short : length (image p) ≤ 65536) (m
     unfolding tried
     tried-last e = rw (step-is x v, ne-eqb (effect-at E x .after .state .status) 0 (omega arith))
 
-    run-more : (k : ℕ) → effect-at E x .after .state .status ≡ 0 → runFrom (suc n) k (image p) (x .words) (x .state) ≡ runFrom n (k + 1) (image p) (step-point E x .words) (step-point E x .state)
+    pub run-more : (k : ℕ) → effect-at E x .after .state .status ≡ 0 → runFrom (suc n) k (image p) (x .words) (x .state) ≡ runFrom n (k + 1) (image p) (step-point E x .words) (step-point E x .state)
     unfolding runFrom
     run-more k e = rw e
 
-    run-last : (k : ℕ) → effect-at E x .after .state .status ≡ 1
+    pub run-last : (k : ℕ) → effect-at E x .after .state .status ≡ 1
         → runFrom (suc n) k (image p) (x .words) (x .state) ≡ run-after (ran (effect-at E x .after .state) (k + 1)) (effect-at E x .after .words)
     unfolding runFrom
     run-last k e = let s = effect-at E x .after .state .status in rw (ne-eqb s 0 (omega arith), le-leb s 1 (omega arith))
@@ -150,35 +156,39 @@ module _ (p : Program) (sound : Sound p) (short : length (image p) ≤ 65536) (m
   unfolding tried
   tried-none w m = refl
 
-  tried-one : (x : Point) → Sees x → tried 1 (image p) (x .words) (x .state) ≡ effect-at E x ∷ []
-  tried-one x v = ⊎-elim (λ e. tried-more x v 0 e ∙ rw tried-none) (tried-last x v 0) (status-of x v)
+  -- a point at an SVC stays
+  halts-stays : (s : State) (x : Point) → Halts E s x → step-point E x ≡ x
+  unfolding listed
+  halts-stays s x h = rw (h .effect) (ap (λ (t : List Access). record { state = x .state; words = x .words; trace = t }) (append-nil (x .trace)))
 
-  -- what a run comes to, r, and the instructions that it tried
-  record Runs (x : Point) (k : ℕ) (es : List Effect) (r : RunAfter) : Type 0 where
-    last : Point
-    chain : Chain E x es last
-    words : r .words ≡ last .words
-    state : r .state .machine ≡ last .state
+  -- a run r from x comes to y, by these instructions
+  record Runs (x y : Point) (k : ℕ) (es : List Effect) (r : RunAfter) : Type 0 where
+    chain : Chain E x es y
+    words : r .words ≡ y .words
+    state : r .state .machine ≡ y .state
     status : r .state .status < 2
     count : r .state .count ≡ k + length es
     ended : r .state .status ≡ 1 → Ended p memory (r .words) (r .state .number)
 
-  runs : (n k : ℕ) (x : Point) → Sees x → Runs x k (tried n (image p) (x .words) (x .state)) (runFrom n k (image p) (x .words) (x .state))
+  -- a run of at most n instructions comes to the point n steps on, as a point at an SVC stays
+  runs : (n k : ℕ) (x : Point) → Sees x → Runs x (times (step-point E) n x) k (tried n (image p) (x .words) (x .state)) (runFrom n k (image p) (x .words) (x .state))
   unfolding runFrom
-  runs zero k x v = rw tried-none (record { last = x; chain = none; words = refl; state = refl; status = omega arith; count = omega arith; ended = λ e. absurd (omega (arith, e)) })
-  runs (suc n) k x v = by (status-of x v) (runs n (k + 1) (step-point E x) (later x v))
+  runs zero k x v = rw tried-none (record { chain = none; words = refl; state = refl; status = omega arith; count = omega arith; ended = λ e. absurd (omega (arith, e)) })
+  runs (suc n) k x v = by (v 0 .does) (runs n (k + 1) (step-point E x) (later x v))
     where
-      by : (effect-at E x .after .state .status ≡ 0) ⊎ (effect-at E x .after .state .status ≡ 1)
-          → Runs (step-point E x) (k + 1) (tried n (image p) (step-point E x .words) (step-point E x .state)) (runFrom n (k + 1) (image p) (step-point E x .words) (step-point E x .state))
-          → Runs x k (tried (suc n) (image p) (x .words) (x .state)) (runFrom (suc n) k (image p) (x .words) (x .state))
-      by (inl e) r =
-          rw (tried-more x v n e, run-more x v n k e)
-          (record { last = r .last; chain = also (r .chain); words = r .words; state = r .state; status = r .status; count = r .count ∙ omega arith; ended = r .ended })
-      by (inr e) r =
-          rw (tried-last x v n e, run-last x v n k e)
-          (record { last = step-point E x; chain = also none; words = refl; state = refl; status = omega arith; count = omega arith; ended = ended-here x v })
+      by : Completes E x ⊎ ((j : ℕ) × Halts E (moves j (begin p memory)) x)
+          → let x′ = step-point E x in Runs x′ (times (step-point E) n x′) (k + 1) (tried n (image p) (x′ .words) (x′ .state)) (runFrom n (k + 1) (image p) (x′ .words) (x′ .state))
+          → Runs x (times (step-point E) n x′) k (tried (suc n) (image p) (x .words) (x .state)) (runFrom (suc n) k (image p) (x .words) (x .state))
+      by (inl c) r =
+          rw (tried-more x v n (c .status), run-more x v n k (c .status))
+          (record { chain = also (r .chain); words = r .words; state = r .state; status = r .status; count = r .count ∙ omega arith; ended = r .ended })
+      by (inr h) r =
+          let e : effect-at E x .after .state .status ≡ 1 = ap (λ (e : Effect). e .after .state .status) (h .1 .effect) in
+          let rest = times-stays (step-point E) n (step-point E x) (ap (step-point E) (halts-stays _ x (h .1))) in
+          rw (tried-last x v n e, run-last x v n k e, rest)
+          (record { chain = also none; words = refl; state = refl; status = omega arith; count = omega arith; ended = ended-here x v })
 
-  run-is : (n : ℕ) (x : Point) → Sees x → runOf n (image p) (x .words) (x .state) ≡ runFrom n 0 (image p) (x .words) (x .state)
+  pub run-is : (n : ℕ) (x : Point) → Sees x → runOf n (image p) (x .words) (x .state) ≡ runFrom n 0 (image p) (x .words) (x .state)
   unfolding runOf
   run-is n x v = rw (eq-eqb (refusalOf (image p) (x .words)) 0 (not-refused (x .words) (v 0 .all)))
 
@@ -190,52 +200,35 @@ module _ (p : Program) (sound : Sound p) (short : length (image p) ≤ 65536) (m
     chain : Chain E x (all-tried made) last
     answered : Each (Answered p memory) made
 
-  -- one call before others
-  before : (x : Point) (a : Called) (more : List Called) (y : Point) → Chain E x (a .tries) y → Answered p memory a → Lists y more → Lists x (a ∷ more)
-  before x a more y c ans l = record { last = l .last; chain = chain-append c (l .chain); answered = (ans, l .answered) }
+  -- the words and the state that a run hands back are those of the point that it comes to
+  pub landed : (n : ℕ) (x : Point) → Sees x → let a = call (image p) (run n) (x .words) (x .state) in let y = times (step-point E) n x in (a .words ≡ y .words) × (a .machine ≡ y .state)
+  landed n x v = let r = runs n 0 x v in rw (run-is n x v) (r .words, r .state)
 
-  one-counted : (x : Point) → Sees x → step-count (effect-at E x .after .state .status) ≡ 1
-  one-counted x v = ⊎-elim (λ e. rw e) (λ e. rw e) (status-of x v)
+  -- a list of calls from a point: a run, then the others from the point that it comes to
+  pub calls-at : (k : Call) (ks : List Call) (x : Point) → Sees x → let y = times (step-point E) (most k) x in
+      calls (image p) (k ∷ ks) (x .words) (x .state) ≡ call (image p) (run (most k)) (x .words) (x .state) ∷ calls (image p) ks (y .words) (y .state)
+  calls-at k ks x v =
+      let l = landed (most k) x v in
+      unfold calls in ap (λ (a : Called). a ∷ calls (image p) ks (a .words) (a .machine)) (call-is-run (image p) k (x .words) (x .state)) ∙ rw (l .0, l .1)
+
+  run-answered : (n : ℕ) (x : Point) → Sees x → Answered p memory (call (image p) (run n) (x .words) (x .state))
+  run-answered n x v =
+      let r = runs n 0 x v in
+      let e = run-is n x v in
+      record { not-refused = rw e (r .status); counted = rw e (r .count ∙ omega arith); kept = rw (e, r .words, r .state) (kept _ (further n x v)); ended = rw e (r .ended) }
 
   lists : (ks : List Call) (x : Point) → Sees x → Lists x (calls (image p) ks (x .words) (x .state))
-  unfolding calls
-  lists [] x v = record { last = x; chain = none; answered = tt }
-  lists (step ∷ ks) x v =
-      let a = call (image p) step (x .words) (x .state) in
-      let e = step-is x v in
-      let l = lists ks (step-point E x) (later x v) in
-      let one = tried-one x v in
-      before x a _ (step-point E x) (rw one (also none))
-      (record { not-refused = rw e (orderly x v .no-fault); counted = rw (one, e) (one-counted x v); kept = rw e (orderly x v .kept); ended = rw e (ended-here x v) }) (rw e l)
-  lists (run n ∷ ks) x v =
-      let a = call (image p) (run n) (x .words) (x .state) in
-      let e = run-is n x v in
-      let r = runs n 0 x v in
-      let l = lists ks (r .last) (chain-sees (r .chain) v) in
-      before x a _ (r .last) (r .chain)
-      (record
-      { not-refused = rw e (r .status); counted = rw e (r .count ∙ omega arith); kept = rw (e, r .words, r .state) (kept (r .last) (chain-sees (r .chain) v)); ended = rw e (r .ended) })
-      (rw (e, r .words, r .state) l)
+  lists [] x v = unfold calls in record { last = x; chain = none; answered = tt }
+  lists (k ∷ ks) x v =
+      let n = most k in
+      let l = lists ks (times (step-point E) n x) (further n x v) in
+      rw (calls-at k ks x v) (record { last = l .last; chain = chain-append (runs n 0 x v .chain) (l .chain); answered = (run-answered n x v, l .answered) })
 
-  -- ── for every number of moves ──
-
-  halts-stays : (s : State) (x : Point) → Halts E s x → step-point E x ≡ x
-  unfolding listed
-  halts-stays s x h = rw (h .effect) (ap (λ (t : List Access). record { state = x .state; words = x .words; trace = t }) (append-nil (x .trace)))
+  -- ── traces ──
 
   -- the trace of n instructions is that of the point they come to
-  tried-trace : (n : ℕ) (x : Point) → Sees x → x .trace ++ trace-of p (tried n (image p) (x .words) (x .state)) ≡ times (step-point E) n x .trace
-  tried-trace zero x v = rw tried-none (append-nil (x .trace))
-  tried-trace (suc n) x v = by (v 0 .does) (tried-trace n (step-point E x) (later x v))
-    where
-      by : Completes E x ⊎ ((j : ℕ) × Halts E (moves j (begin p memory)) x)
-          → step-point E x .trace ++ trace-of p (tried n (image p) (step-point E x .words) (step-point E x .state)) ≡ times (step-point E) n (step-point E x) .trace
-          → x .trace ++ trace-of p (tried (suc n) (image p) (x .words) (x .state)) ≡ times (step-point E) n (step-point E x) .trace
-      by (inl c) ih = rw (tried-more x v n (c .status)) (sym (append-assoc (x .trace) _ _) ∙ ih)
-      by (inr h) ih =
-          let s = halts-stays _ x (h .1) in
-          rw (tried-last x v n (ap (λ (e : Effect). e .after .state .status) (h .1 .effect)), times-stays (step-point E) n (step-point E x) (ap (step-point E) s ∙ refl))
-          (sym (append-assoc (x .trace) _ []) ∙ append-nil _)
+  pub tried-trace : (n : ℕ) (x : Point) → Sees x → x .trace ++ trace-of p (tried n (image p) (x .words) (x .state)) ≡ times (step-point E) n x .trace
+  tried-trace n x v = chain-whole (runs n 0 x v .chain)
 
   -- ── ends ──
 
@@ -243,23 +236,44 @@ module _ (p : Program) (sound : Sound p) (short : length (image p) ≤ 65536) (m
   abbrev At : State → ℕ → Point → Type 0
   At s c x = (h : Halts E s x) × (h .number ≡ c)
 
-  run-halts : (x : Point) → Sees x → (s : State) (c : ℕ) → At s c x → (l k : ℕ) → EndsBy p c (s .words) (runFrom (suc l) k (image p) (x .words) (x .state))
-  run-halts x v s c (h, e) l k =
-      rw (run-last x v l k (ap (λ (e : Effect). e .after .state .status) (h .effect)), h .effect)
-      (record { by-svc = refl; number = e; same-words = same-data (x .words) (s .words) (v 0 .all) (h .declared) (h .same) })
+  -- a run that ended by SVC c
+  record BySvc (c : ℕ) (r : RunAfter) : Type 0 where
+    status : r .state .status ≡ 1
+    number : r .state .number ≡ c
+
+  run-halts : (x : Point) → Sees x → (s : State) (c : ℕ) → At s c x → (l k : ℕ) → BySvc c (runFrom (suc l) k (image p) (x .words) (x .state))
+  run-halts x v s c (h, e) l k = rw (run-last x v l k (ap (λ (e : Effect). e .after .state .status) (h .effect)), h .effect) (record { status = refl; number = e })
 
   -- where n steps come to an SVC, every run with a limit above n ends by it
-  run-ends : (n : ℕ) (x : Point) → Sees x → (s : State) (c : ℕ) → At s c (times (step-point E) n x) → (limit k : ℕ) → n < limit
-      → EndsBy p c (s .words) (runFrom limit k (image p) (x .words) (x .state))
-  run-ends n x v s c h zero k b = absurd (omega arith)
-  run-ends zero x v s c h (suc l) k b = run-halts x v s c h l k
-  run-ends (suc n) x v s c h (suc l) k b = by (v 0 .does) (run-ends n (step-point E x) (later x v) s c h l (k + 1) (omega arith))
+  run-svc : (n : ℕ) (x : Point) → Sees x → (s : State) (c : ℕ) → At s c (times (step-point E) n x) → (limit k : ℕ) → n < limit → BySvc c (runFrom limit k (image p) (x .words) (x .state))
+  run-svc n x v s c h zero k b = absurd (omega arith)
+  run-svc zero x v s c h (suc l) k b = run-halts x v s c h l k
+  run-svc (suc n) x v s c h (suc l) k b = by (v 0 .does) (run-svc n (step-point E x) (later x v) s c h l (k + 1) (omega arith))
     where
-      by : Completes E x ⊎ ((j : ℕ) × Halts E (moves j (begin p memory)) x)
-          → EndsBy p c (s .words) (runFrom l (k + 1) (image p) (step-point E x .words) (step-point E x .state))
-          → EndsBy p c (s .words) (runFrom (suc l) k (image p) (x .words) (x .state))
+      by : Completes E x ⊎ ((j : ℕ) × Halts E (moves j (begin p memory)) x) → BySvc c (runFrom l (k + 1) (image p) (step-point E x .words) (step-point E x .state))
+          → BySvc c (runFrom (suc l) k (image p) (x .words) (x .state))
       by (inl g) ih = rw (run-more x v l k (g .status)) ih
       by (inr g) ih = run-halts x v s c (subst (At s c) (times-stays (step-point E) (suc n) x (halts-stays _ x (g .1))) h) l k
+
+  -- a point that stays is the last
+  still : (l n : ℕ) (x : Point) → n ≤ l → step-point E (times (step-point E) n x) ≡ times (step-point E) n x → times (step-point E) l x ≡ times (step-point E) n x
+  still l zero x b e = times-stays (step-point E) l x e
+  still zero (suc n) x b e = absurd (omega arith)
+  still (suc l) (suc n) x b e = still l n (step-point E x) (omega arith) e
+
+  -- so such a run hands back that point's words, and its accesses are all of the source's
+  run-ends : (n : ℕ) (x : Point) → Sees x → x .trace ≡ [] → (s : State) (c : ℕ) → At s c (times (step-point E) n x) → times (step-point E) n x .trace ≡ s .trace → (limit : ℕ) → n < limit
+      → EndsBy p c (s .words) (s .trace) (call (image p) (run limit) (x .words) (x .state))
+  run-ends n x v z s c h t limit b =
+      let y = times (step-point E) n x in
+      let q = still limit n x (omega arith) (halts-stays s y (h .0)) in
+      let svc = run-svc n x v s c h limit 0 b in
+      record {
+        by-svc = rw (run-is limit x v) (svc .status);
+        number = rw (run-is limit x v) (svc .number);
+        same-words = rw (landed limit x v .0, q) (same-data (y .words) (s .words) (further n x v 0 .all) (h .0 .declared) (h .0 .same));
+        same-trace = ap (λ (l : List Access). l ++ trace-of p (tried limit (image p) (x .words) (x .state))) (sym z) ∙ tried-trace limit x v ∙ ap (λ (y : Point). y .trace) q ∙ t;
+      }
 
   -- ── from the start ──
 
@@ -268,19 +282,22 @@ module _ (p : Program) (sound : Sound p) (short : length (image p) ≤ 65536) (m
   start-is =
       rw (eq-eqb (refusalOf (image p) memory) 0 (not-refused memory refl), le-ltb 8192 (D p) (sound .small), le-ltb 32 (N p) (sound .shallow), le-ltb (length memory) (needs p) (lent .enough))
 
-  started-is : started p memory ≡ freshOf (D p) (N p)
+  pub started-is : started p memory ≡ freshOf (D p) (N p)
   started-is = ap (λ (s : Started). s .machine) start-is
 
-  seen : Sees (first-point p memory)
-  seen i =
-      sees move (step-point E) state-size (Simulated E memory) (Seen E memory) (seen-back E memory) (simulates-point E (limits p sound short memory lent) memory) i (begin p memory)
-      (first-point p memory) (first-simulated p sound short memory lent)
+  abbrev Simulates : State → Point → Type 0
+  Simulates = Simulated E (Matches E memory)
 
-  reached : (j : ℕ) → (n : ℕ) × Simulated E memory (moves j (begin p memory)) (times (step-point E) n (first-point p memory))
+  follows : Follower E (step-point E) (Matches E memory) (Seen E memory)
+  follows = follower E (limits p sound short memory lent) memory
+
+  pub seen : Sees (first-point p memory)
+  seen i = always E (limits p sound short memory lent) (step-point E) (Matches E memory) (Seen E memory) follows i (begin p memory) (first-point p memory) (first-simulated p sound short memory lent)
+
+  reached : (j : ℕ) → (n : ℕ) × Simulates (moves j (begin p memory)) (times (step-point E) n (first-point p memory))
   reached j =
-      let r =
-      reaches move (step-point E) state-size (Simulated E memory) (Seen E memory) (seen-back E memory) (simulates-point E (limits p sound short memory lent) memory) j (begin p memory)
-      (first-point p memory) (first-simulated p sound short memory lent) in
+      let ok = limits p sound short memory lent in
+      let r = arrives E ok (step-point E) (Matches E memory) (Seen E memory) follows j (begin p memory) (first-point p memory) (first-simulated p sound short memory lent) in
       (r .0, rw moves-times at (r .1))
 
   all-lists : (ks : List Call) → Lists (first-point p memory) (called p memory ks)
@@ -301,7 +318,7 @@ module _ (p : Program) (sound : Sound p) (short : length (image p) ≤ 65536) (m
           → (j : ℕ) × (trace-of p (take i (all-tried (called p memory ks))) ≡ moves j (begin p memory) .trace)
       by-sight ks i (n, e) = let s = seen n in (s .j, e ∙ s .list)
 
-      by-reach : (j : ℕ) → (n : ℕ) × Simulated E memory (moves j (begin p memory)) (times (step-point E) n (first-point p memory))
+      by-reach : (j : ℕ) → (n : ℕ) × Simulates (moves j (begin p memory)) (times (step-point E) n (first-point p memory))
           → (n : ℕ) × (trace-of p (tried n (image p) memory (started p memory)) ≡ moves j (begin p memory) .trace)
       by-reach j (n, r) = (
         n,
@@ -310,14 +327,16 @@ module _ (p : Program) (sound : Sound p) (short : length (image p) ≤ 65536) (m
             ∙ simulated-trace E (limits p sound short memory lent) memory (moves j (begin p memory)) _ r,
       )
 
-      by-end : (j n : ℕ) → ends-with (moves j (begin p memory) .end) n ≡ true → (i : ℕ) × Simulated E memory (moves j (begin p memory)) (times (step-point E) i (first-point p memory))
-          → (l : ℕ) × ((limit : ℕ) → l ≤ limit → EndsBy p n (moves j (begin p memory) .words) (runOf limit (image p) memory (started p memory)))
+      by-end : (j n : ℕ) → let s = moves j (begin p memory) in ends-with (s .end) n ≡ true → (i : ℕ) × Simulates s (times (step-point E) i (first-point p memory))
+          → (l : ℕ) × ((limit : ℕ) → l ≤ limit → EndsBy p n (s .words) (s .trace) (call (image p) (run limit) memory (started p memory)))
       by-end j n e (i, r) =
           let s = moves j (begin p memory) in
-          let h = ended-point E (limits p sound short memory lent) memory s (times (step-point E) i (first-point p memory)) n r e in
-          let at : At s n (times (step-point E) i (first-point p memory)) = (h, one-number (s .end) (h .number) n (h .ends) e) in (
+          let y = times (step-point E) i (first-point p memory) in
+          let ok = limits p sound short memory lent in
+          let h = ended-point E ok memory s y n r e in
+          let at : At s n y = (h, one-number (s .end) (h .number) n (h .ends) e) in (
             suc i,
             λ limit b.
-                subst (λ (m : Machine). EndsBy p n (s .words) (runOf limit (image p) memory m)) (sym started-is)
-                (rw (run-is limit (first-point p memory) seen) (run-ends i (first-point p memory) seen s n at limit 0 b)),
+                subst (λ (m : Machine). EndsBy p n (s .words) (s .trace) (call (image p) (run limit) memory m)) (sym started-is)
+                (run-ends i (first-point p memory) seen refl s n at (simulated-trace E ok memory s y r) limit b),
           )

@@ -9,6 +9,7 @@ pub mod ExpressionBlocks
 pub mod Places
 pub mod ProcessBlocks
 pub mod MoveBlocks
+pub mod Following
 pub mod Bridge
 pub mod Demand3
 pub mod Iterated

@@ -1,5 +1,5 @@
 -- The block lemmas of processes: assignments, choices, loops, and processes that unfold. Lemmas; they rest on Block and Places.
-use mathlib.Core.Path.{_≡_, refl, sym, ap, _∙_}
+use mathlib.Core.Path.{_≡_, refl, sym, _∙_}
 use mathlib.Core.Bool.{true, false}
 use mathlib.Core.Option.{Option, none}
 use mathlib.Core.List.{List, [], _∷_, _++_}
@@ -141,7 +141,7 @@ module _ {E : Setting} (ok : Limits E) (d : List ℕ) (t : List Access) (c : Lis
         z = _;
         path = holds (choose x y) w p mr (first-at take-condition _ code) h;
         related = rw (ne-eqb w 0 (omega arith))
-            (relate ok (suc k) ((pc₁, there, first-at cx _ at, hop-to (E .code) _ c f₆ j cn₁), (fi .0, fi .2, fi .3)) (popped mr));
+            (relate ok (suc k) ((pc₁, there, first-at cx _ at, hop-to (E .code) _ c f₆ j cn₁), (fi .0, fi .2)) (popped mr));
         falls = λ x. omega arith;
       }
 
@@ -163,7 +163,7 @@ module _ {E : Setting} (ok : Limits E) (d : List ℕ) (t : List Access) (c : Lis
         n = _;
         z = _;
         path = fails (choose x y) w p mr (first-at take-condition _ code) h;
-        related = rw (eq-eqb w 0 h) (relate ok (suc k) ((advance cx pc₁ + 4, hop f₅ (rw j there), tail-at at′, cn₁), (fi .1, fi .2, fi .3)) (popped mr));
+        related = rw (eq-eqb w 0 h) (relate ok (suc k) ((advance cx pc₁ + 4, hop f₅ (rw j there), tail-at at′, cn₁), (fi .1, fi .2)) (popped mr));
         falls = λ x. omega arith;
       }
 
@@ -200,7 +200,7 @@ module _ {E : Setting} (ok : Limits E) (d : List ℕ) (t : List Access) (c : Lis
         related = rw (ne-eqb w 0 (omega arith))
             (relate ok (suc k) (
               (pc₁, there, atx, (q₀, hop f₆ (rw j there), at₀, cn₁)),
-              (record { resolved = fi .0 .resolved .1; shallow = omega (arith, fi .0 .shallow) }, fi .1, (fi .0, fi .1, fi .2)),
+              (record { resolved = fi .0 .resolved .1; shallow = omega (arith, fi .0 .shallow) }, (fi .0, fi .1)),
             )
             (popped mr));
         falls = λ x. omega arith;
@@ -222,7 +222,7 @@ module _ {E : Setting} (ok : Limits E) (d : List ℕ) (t : List Access) (c : Lis
         n = _;
         z = _;
         path = fails (repeat e x) w p mr (first-at take-condition _ code) h;
-        related = rw (eq-eqb w 0 h) (relate ok (suc k) (hop-to (E .code) _ c f₅ j cn₁, fi .2) (popped mr));
+        related = rw (eq-eqb w 0 h) (relate ok (suc k) (hop-to (E .code) _ c f₅ j cn₁, fi .1) (popped mr));
         falls = λ x. omega arith;
       }
 
@@ -248,16 +248,15 @@ module _ {E : Setting} (ok : Limits E) (d : List ℕ) (t : List Access) (c : Lis
       let at′ = rw (list-code x ps) at at in
       (q, there, first-at cx _ at′, list-continues ps (advance cx q) (rest-at cx _ at′) (rw (list-code x ps, advance-append) at cn))
 
-  list-fits : (ps : Processes) (p : List ℕ) → p ≡ [] → ResolvedAll (E .declarations) ps → deepest-of ps < E .stack → Fits E c p → Fits E (in-order ps c) p
-  list-fits Processes.none p e r b f = f
-  list-fits (also x ps) p e r b f = (record { resolved = r .0; shallow = omega arith }, e, list-fits ps p e (r .1) (omega arith) f)
+  list-fits : (ps : Processes) (p : List ℕ) → ResolvedAll (E .declarations) ps → length p + deepest-of ps < E .stack → Fits E c p → Fits E (in-order ps c) p
+  list-fits Processes.none p r b f = f
+  list-fits (also x ps) p r b f = (record { resolved = r .0; shallow = omega arith }, list-fits ps p (r .1) (omega arith) f)
 
   pub of-process : (x : Process) (p : List ℕ) → At (E .code) pc (process-code (core-process x)) → Here (execute x) p
   unfolding process-code
-  of-process skip p at cn fi mr = record { n = _; z = _; path = here; related = relate ok k (cn, fi .2) mr; falls = λ x. omega arith }
+  of-process skip p at cn fi mr = record { n = _; z = _; path = here; related = relate ok k (cn, fi .1) mr; falls = λ x. omega arith }
   of-process stop p (f ▸ at) cn fi mr = record { n = _; z = _; path = here; related = relate ok k f mr; falls = λ x. omega arith }
   of-process (assign v e) p at cn fi mr =
-      let z : length p ≡ 0 = ap length (fi .1) in
       let ce = expression-code (core e) in
       record {
         n = _;
@@ -265,13 +264,12 @@ module _ {E : Setting} (ok : Limits E) (d : List ℕ) (t : List Access) (c : Lis
         path = here;
         related = relate ok k (
           (pc, there, first-at ce _ at, (_, there, rest-at ce _ at, rw advance-append at cn)),
-          (fi .0 .resolved .1, omega (arith, fi .0 .shallow), λ w h. (fi .0 .resolved .0, fi .2)),
+          (fi .0 .resolved .1, omega (arith, fi .0 .shallow), λ w h. (fi .0 .resolved .0, fi .1)),
         )
             mr;
         falls = λ x. omega arith;
       }
   of-process (assign-element y u e) p at cn fi mr =
-      let z : length p ≡ 0 = ap length (fi .1) in
       let cs = expression-code (core u) in
       let ce = expression-code (core e) in
       let ck = check-subscript (y .length) in
@@ -287,7 +285,7 @@ module _ {E : Setting} (ok : Limits E) (d : List ℕ) (t : List Access) (c : Lis
           (
             fi .0 .resolved .1,
             omega (arith, fi .0 .shallow),
-            λ w h. (dy .few, λ l. (fi .0 .resolved .2, omega (arith, fi .0 .shallow), λ v i. (record { inside = omega (arith, dy .inside); own = dy .own w l }, fi .2))),
+            λ w h. (dy .few, λ l. (fi .0 .resolved .2, omega (arith, fi .0 .shallow), λ v i. (record { inside = omega (arith, dy .inside); own = dy .own w l }, fi .1))),
           ),
         )
             mr;
@@ -298,11 +296,10 @@ module _ {E : Setting} (ok : Limits E) (d : List ℕ) (t : List Access) (c : Lis
         n = _;
         z = _;
         path = here;
-        related = relate ok k (list-continues ps pc at cn, list-fits ps p (fi .1) (fi .0 .resolved) (fi .0 .shallow) (fi .2)) mr;
+        related = relate ok k (list-continues ps pc at cn, list-fits ps p (fi .0 .resolved) (fi .0 .shallow) (fi .1)) mr;
         falls = λ x. omega (arith, in-order-size ps c);
       }
   of-process (conditional e x y) p at cn fi mr =
-      let z : length p ≡ 0 = ap length (fi .1) in
       let ce = expression-code (core e) in
       record {
         n = _;
@@ -317,7 +314,6 @@ module _ {E : Setting} (ok : Limits E) (d : List ℕ) (t : List Access) (c : Lis
               record { resolved = fi .0 .resolved .1; shallow = omega (arith, fi .0 .shallow) },
               record { resolved = fi .0 .resolved .2; shallow = omega (arith, fi .0 .shallow) },
               fi .1,
-              fi .2,
             ),
           ),
         )
@@ -325,7 +321,6 @@ module _ {E : Setting} (ok : Limits E) (d : List ℕ) (t : List Access) (c : Lis
         falls = λ x. omega arith;
       }
   of-process (loop e x) p at cn fi mr =
-      let z : length p ≡ 0 = ap length (fi .1) in
       let ce = expression-code (core e) in
       record {
         n = _;
@@ -333,7 +328,7 @@ module _ {E : Setting} (ok : Limits E) (d : List ℕ) (t : List Access) (c : Lis
         path = here;
         related = relate ok k (
           (pc, there, first-at ce _ at, (_, there, (pc, at, refl), rw advance-append at cn)),
-          (fi .0 .resolved .0, omega (arith, fi .0 .shallow), λ w h. (fi .0, fi .1, fi .2)),
+          (fi .0 .resolved .0, omega (arith, fi .0 .shallow), λ w h. (fi .0, fi .1)),
         )
             mr;
         falls = λ x. omega arith;

@@ -42,10 +42,10 @@ pub record Limits (E : Setting) : Type 0 where
 
 -- ── what is to do can be done ──
 
--- a process whose names are declared and whose expressions fit the stack
-pub record Ready (E : Setting) (p : Process) : Type 0 where
+-- a process whose names are declared and whose expressions fit the stack above the h words that are on it
+pub record Ready (E : Setting) (h : ℕ) (p : Process) : Type 0 where
   pub resolved : ResolvedProcess (E .declarations) p
-  pub shallow : deepest p < E .stack
+  pub shallow : h + deepest p < E .stack
 
 -- an element, by its array's offset and its subscript
 pub record Element (E : Setting) (a : Array) (i : ℕ) : Type 0 where
@@ -65,16 +65,16 @@ Fits E (check a ∷ c) [] = ⊥
 Fits E (check a ∷ c) (i ∷ s) = (a .length ≤ 8192) × (i < a .length → Fits E c (i ∷ s))
 Fits E (load a ∷ c) [] = ⊥
 Fits E (load a ∷ c) (i ∷ s) = Element E a i × ((w : ℕ) → w < modulus → Fits E c (w ∷ s))
-Fits E (execute p ∷ c) s = Ready E p × (s ≡ []) × Fits E c s
+Fits E (execute p ∷ c) s = Ready E (length s) p × Fits E c s
 Fits E (set-variable v ∷ c) [] = ⊥
 Fits E (set-variable v ∷ c) (w ∷ s) = DeclaredVariable (E .declarations) v × Fits E c s
 Fits E (store a ∷ c) [] = ⊥
 Fits E (store a ∷ c) (w ∷ []) = ⊥
 Fits E (store a ∷ c) (w ∷ i ∷ s) = Element E a i × Fits E c s
 Fits E (choose p q ∷ c) [] = ⊥
-Fits E (choose p q ∷ c) (w ∷ s) = Ready E p × Ready E q × (s ≡ []) × Fits E c s
+Fits E (choose p q ∷ c) (w ∷ s) = Ready E (length s) p × Ready E (length s) q × Fits E c s
 Fits E (repeat e p ∷ c) [] = ⊥
-Fits E (repeat e p ∷ c) (w ∷ s) = Ready E (loop e p) × (s ≡ []) × Fits E c s
+Fits E (repeat e p ∷ c) (w ∷ s) = Ready E (length s) (loop e p) × Fits E c s
 
 -- ── where it stands in the code ──
 
