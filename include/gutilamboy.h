@@ -114,7 +114,9 @@ struct gutilamboy_state {
 #define GUTILAMBOY_BAD_SUBSCRIPT 2
 
 /* The status of start; the state to begin with, all zero where it is refused. `data` and `depth` are those of the
- * translation, `code_length` is the image's length, not the buffer's. Memory holds the starting words. */
+ * translation, `code_length` is the image's length, not the buffer's. Memory holds the starting words: `data` declared
+ * ones; the words behind them may hold anything, an image's status, number, count and declared words never depend on
+ * them, so nothing has to be cleared before another rule. */
 uint32_t gutilamboy_start(const uint8_t *code, size_t code_length,
                           const uint32_t *memory, size_t memory_length,
                           uint32_t data, uint32_t depth,

@@ -49,7 +49,7 @@ static int run(const struct gutilamboy_translation *t, const char *what, const u
     uint32_t status;
     uint32_t i;
 
-    memset(memory, 0, sizeof memory);
+    /* the declared words; those behind them keep what the rule before left, which changes no answer */
     memcpy(memory, words, length * sizeof *words);
     status = gutilamboy_start(code, t->code, memory, MEMORY_WORDS, t->data, t->depth, &state);
     if (status != GUTILAMBOY_DONE) {

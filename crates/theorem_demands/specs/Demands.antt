@@ -1,4 +1,4 @@
--- Demands 1, 2 and 3, from source bytes to machine calls: statements alone, over the definitions that the public calls meet by equation.
+-- Demands 1, 2 and 3, and request 2026-12 as a fourth, from source bytes to machine calls: statements alone, over the definitions that the public calls meet by equation.
 -- `translate` meets `translation`; `start`, `step` and `run` meet `startOf`, `stepOf` and `runOf`; `encode` and `decode` meet `encodeOf` and `decodeOf`.
 use mathlib.Core.Path.{_≡_}
 use mathlib.Core.List.{List}
@@ -19,6 +19,7 @@ use Rattle.arm_encoding.specs.declared.Decoded.the-variants.{Known}
 use Rattle.arm_state.specs.declared.Machine.{Machine}
 use Rattle.arm_machine.specs.Step.{stepOf}
 use Rattle.theorem_simulation.specs.Demand3.{D, N, Lent, Demand3}
+use Rattle.theorem_simulation.specs.Demand4.{Agree, Demand4}
 
 -- ── demand 1: everything is answered ──
 
@@ -80,10 +81,13 @@ pub record Demand2 : Type 0 where
   pub decoded : (i : Instr) → encodeOf i .status ≡ 0 → decodeOf (encodeOf i .first) (encodeOf i .second) ≡ Known i
   pub encoded : (h s : ℕ) (i : Instr) → s < 65536 → decodeOf h s ≡ Known i → encodeOf i ≡ whole h s
 
--- ── demand 3, and demand 2's ends: one claim over any list of calls ──
+-- ── demand 3, and demand 2's ends: one claim over any list of calls; demand 4, old words in the stack don't matter ──
 
 pub record Demands : Type 0 where
   pub one : Demand1
   pub two : Demand2
   -- any accepted source, any starting words, needed words <= memory <= 16,384 words, any list of calls
   pub three : (source : List ℕ) (table code : ℕ) (p : Program) (memory : List ℕ) → Translates source table code p → Lent p memory → Demand3 p memory
+  -- "For the image of one accepted source, started as in demand 3 over two memories that agree in the D declared words"
+  pub four : (source : List ℕ) (table code : ℕ) (p : Program) (memory other : List ℕ) → Translates source table code p → Lent p memory → Lent p other → Agree p memory other
+      → Demand4 p memory other

@@ -1,11 +1,12 @@
--- Demands 1, 2 and 3 proved from the layers' theorems. Assumes nothing.
+-- The four demands proved from the layers' theorems. Assumes nothing.
 use mathlib.Core.Path.{_≡_, refl, sym, ap, subst, _∙_}
 use mathlib.Core.List.{List, _++_}
-use Prim.Native.Nat.{ℕ, _-_, _<_}
+use Prim.Native.Nat.{ℕ, _-_, _≤_, _<_}
 use native.Mathlib.Omega.{arith}
 use lib.ListN.{length, take}
 use lib.Seq.{take-at}
 use Rattle.x_program.specs.Tree.{Program}
+use Rattle.x_program.specs.Sound.{Sound}
 use Rattle.x_verdict.specs.Deserved.{Deserves, FirstDeserved}
 use Rattle.x_verdict.specs.Front.{Outcome, refused, accepted, front}
 use Rattle.x_verdict.specs.VerdictExact as exact
@@ -19,6 +20,8 @@ use Rattle.translate_source.specs.Translate.{translated, translation, zeros}
 use Rattle.translate_source.specs.TranslationRoom.{accepted-fits}
 use Rattle.theorem_simulation.specs.Demand3.{Lent, Demand3}
 use Rattle.theorem_simulation.specs.Demand3Proof as simulation
+use Rattle.theorem_simulation.specs.Demand4.{Agree, Demand4}
+use Rattle.theorem_simulation.specs.Demand4Proof as alike
 use Rattle.theorem_demands.specs.Demands.{Refused, Demand1, Translates, XAs, Demand2, Demands}
 
 -- ── demand 1 ──
@@ -115,16 +118,30 @@ demand2 = record {
   encoded = encode-decode;
 }
 
--- ── demand 3 ──
+-- ── demands 3 and 4 ──
 
-demand3 : (source : List ℕ) (table code : ℕ) (p : Program) (memory : List ℕ) → Translates source table code p → Lent p memory → Demand3 p memory
-demand3 source table code p memory t l =
-    let n = length (t .is-X .ts) in
-    let e = front-accepts source table code p (t .is-X) in
-    let s = accepted-sound source table code n p e in
-    let f = accepted-fits source table code n p e in
-    simulation.demand3 p s (omega (arith, f .small)) memory l
+-- an accepted program is sound, and its image is no longer than code may be
+module _ (source : List ℕ) (table code : ℕ) (p : Program) (t : Translates source table code p) where
+  as-accepted : front source table code ≡ accepted (length (t .is-X .ts)) p
+  as-accepted = front-accepts source table code p (t .is-X)
+
+  sound : Sound p
+  sound = accepted-sound source table code (length (t .is-X .ts)) p as-accepted
+
+  short : length (image p) ≤ 65536
+  short = omega (arith, accepted-fits source table code (length (t .is-X .ts)) p as-accepted .small)
+
+  demand3 : (memory : List ℕ) → Lent p memory → Demand3 p memory
+  demand3 memory l = simulation.demand3 p sound short memory l
+
+  demand4 : (memory other : List ℕ) → Lent p memory → Lent p other → Agree p memory other → Demand4 p memory other
+  demand4 memory other l m a = alike.demand4 p sound short memory other l m a
 
 -- THE THEOREM
 pub demands : Demands
-demands = record { one = demand1; two = demand2; three = demand3 }
+demands = record {
+  one = demand1;
+  two = demand2;
+  three = λ source table code p memory t. demand3 source table code p t memory;
+  four = λ source table code p memory other t. demand4 source table code p t memory other;
+}

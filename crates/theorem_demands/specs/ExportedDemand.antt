@@ -1,4 +1,5 @@
--- Demand 3 at the C boundary: the 12 words of the state and the words of memory that each exported call leaves, for any list of these calls. Statement; rests on the exported calls' definitions.
+-- Demands 3 and 4 at the C boundary: the answer, the 12 words of the state and the words of memory that each exported call leaves, for any list of these calls.
+-- Statement; rests on the exported calls' definitions.
 -- `gutilamboy_start`, `gutilamboy_step` and `gutilamboy_run` meet `startCall`, `stepCall` and `runCall` by equation.
 use mathlib.Core.Path.{_≡_}
 use mathlib.Core.Bool.{true}
@@ -11,6 +12,7 @@ use Rattle.translate_rules.specs.ImageCode.{image}
 use Rattle.arm_state.specs.State.{base}
 use Rattle.gutilamboy.specs.Calls.{startLeft, startCall, Left, stepCall, runCall}
 use Rattle.theorem_simulation.specs.Demand3.{Each, D, N, needs, Lent, Call, step, run, Ended}
+use Rattle.theorem_simulation.specs.Demand4.{Agree, Both}
 use Rattle.theorem_demands.specs.Demands.{Translates}
 
 -- one exported call after another, all with the same code: each gets the state and the memory that the one before left
@@ -62,6 +64,14 @@ pub record AtBoundary (p : Program) (memory : List ℕ) : Type 0 where
   pub ends : (j n : ℕ) → ends-with (moves j (begin p memory) .end) n ≡ true
       → (l : ℕ) × ((limit : ℕ) → l ≤ limit → EndsSo p n (moves j (begin p memory) .words) (runCall limit (image p) memory (first-words p)))
 
--- any accepted source, any starting words, needed words <= memory <= 16,384 words, any list of exported calls
-abbrev pub Exported : Type 0
-Exported = (source : List ℕ) (table code : ℕ) (p : Program) (memory : List ℕ) → Translates source table code p → Lent p memory → AtBoundary p memory
+-- two exported calls that are answered alike: the answer's words (status, number and, of a run, the count) and the D words
+pub record SameLeft (p : Program) (a b : Left) : Type 0 where
+  pub answer : a .out ≡ b .out
+  pub words : Agree p (a .memory) (b .memory)
+
+pub record Exported : Type 0 where
+  -- any accepted source, any starting words, needed words <= memory <= 16,384 words, any list of exported calls
+  pub three : (source : List ℕ) (table code : ℕ) (p : Program) (memory : List ℕ) → Translates source table code p → Lent p memory → AtBoundary p memory
+  -- two memories that agree in the D declared words
+  pub four : (source : List ℕ) (table code : ℕ) (p : Program) (memory other : List ℕ) → Translates source table code p → Lent p memory → Lent p other → Agree p memory other
+      → (ks : List Call) → Both (SameLeft p) (exported-calls (image p) ks memory (first-words p)) (exported-calls (image p) ks other (first-words p))

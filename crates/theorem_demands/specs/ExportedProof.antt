@@ -1,4 +1,4 @@
--- Demand 3 at the C boundary, proved: an exported call does to the words of a state what the call does to the state. Rests on DemandsProof and on numbers' laws; assumes nothing.
+-- Demands 3 and 4 at the C boundary, proved: an exported call does to the words of a state what the call does to the state. Rests on DemandsProof and on numbers' laws; assumes nothing.
 use mathlib.Core.Path.{_≡_, refl, ap, subst, _∙_}
 use mathlib.Core.List.{List, [], _∷_}
 use Prim.Native.Nat.{ℕ}
@@ -16,8 +16,9 @@ use Rattle.gutilamboy_numbers.specs.Numbers.{stateWords}
 use Rattle.gutilamboy_numbers.specs.NumberLaws.{state-back}
 use Rattle.gutilamboy.specs.Calls.{left, ofStart, runCall}
 use Rattle.theorem_simulation.specs.Demand3.{Each, D, N, Lent, Call, step, run, Called, call, calls, started, Answered, EndsBy, Demand3}
+use Rattle.theorem_simulation.specs.Demand4.{Alike, Both}
 use Rattle.theorem_demands.specs.DemandsProof.{demands}
-use Rattle.theorem_demands.specs.ExportedDemand.{exported, exported-calls, first-words, InOrder, EndsSo, AtBoundary, Exported}
+use Rattle.theorem_demands.specs.ExportedDemand.{exported, exported-calls, first-words, InOrder, EndsSo, AtBoundary, SameLeft, Exported}
 
 -- ── what an exported call leaves, by what the call hands back ──
 
@@ -50,6 +51,8 @@ module _ (code : List ℕ) (k : Call) (w : List ℕ) (m : Machine) where
       by : (k : Call) → length (call code k w m .words) ≡ length w
       by step = step-length code w m
       by (run n) = run-length n code w m
+
+-- ── demand 3 ──
 
 module _ (p : Program) (memory : List ℕ) (lent : Lent p memory) (d : Demand3 p memory) where
   -- a list of exported calls from a state's words, beside the same calls from the state
@@ -98,6 +101,32 @@ module _ (p : Program) (memory : List ℕ) (lent : Lent p memory) (d : Demand3 p
     ends = λ j n e. let l = d .ends j n e in (l .0, λ limit h. run-ends limit n _ _ (l .1 limit h));
   }
 
+-- ── demand 4 ──
+
+module _ (p : Program) where
+  same-answer : (k : Call) (a b : Called) → Alike p a b → answer-words k a ≡ answer-words k b
+  same-answer step a b s = rw (s .status, s .number)
+  same-answer (run n) a b s = rw (s .status, s .number, s .count)
+
+  -- two lists of exported calls from two states' words, beside the same calls from the states
+  both-left : (ks : List Call) (w v : List ℕ) (m n : Machine) → length (m .regs) ≡ 8 → length (n .regs) ≡ 8 → Both (Alike p) (calls (image p) ks w m) (calls (image p) ks v n)
+      → Both (SameLeft p) (exported-calls (image p) ks w (stateWords m)) (exported-calls (image p) ks v (stateWords n))
+  unfolding calls exported-calls
+  both-left [] w v m n r q s = tt
+  both-left (k ∷ ks) w v m n r q s =
+      rw (exported-is (image p) k w m r, exported-is (image p) k v n q) (
+        record { answer = same-answer k _ _ (s .0); words = s .0 .words },
+        both-left ks _ _ _ _ (call-registers (image p) k w m ∙ r) (call-registers (image p) k v n ∙ q) (s .1),
+      )
+
 -- THE corollary
 pub exported-demands : Exported
-exported-demands source table code p memory t l = at-boundary p memory l (demands .three source table code p memory t l)
+exported-demands = record {
+  three = λ source table code p memory t l. at-boundary p memory l (demands .three source table code p memory t l);
+  four = λ source table code p memory other t l m a ks.
+      let d = demands .three source table code p memory t l in
+      let e = demands .three source table code p other t m in
+      subst (λ (s : List ℕ). Both (SameLeft p) (exported-calls (image p) ks memory s) (exported-calls (image p) ks other (first-words p))) (started-words p memory l d)
+      (subst (λ (s : List ℕ). Both (SameLeft p) (exported-calls (image p) ks memory (stateWords (started p memory))) (exported-calls (image p) ks other s)) (started-words p other m e)
+      (both-left p ks memory other (started p memory) (started p other) (eight p memory l d) (eight p other m e) (demands .four source table code p memory other t l m a ks)));
+}

@@ -1,4 +1,4 @@
--- Anything that follows the abstract machine simulates the source, as the machine over lent words does (Concrete). Lemmas; they rest on MoveBlocks and Generic.
+-- Anything that follows the abstract machine simulates the source: the machine over lent words (Concrete), or two of them side by side (Demand4Proof). Lemmas; they rest on MoveBlocks and Generic.
 use mathlib.Core.Path.{_≡_}
 use mathlib.Core.Logic.{_⊎_, inl, inr, ⊎-elim}
 use Prim.Native.Nat.{ℕ}

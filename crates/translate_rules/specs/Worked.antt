@@ -1,4 +1,4 @@
--- Small programs, each run to its end by computation on both sides: the image on the machine, and the source's run. Their ends and D words agree. Instances.
+-- Small programs, each run to its end by computation on both sides: the image on the machine, over a stack of zeros and of old words, and the source's run. Their ends and D words agree. Instances.
 -- theorem_simulation has the theorem for all programs; these are the places where a rule goes wrong easily (document 01's four traps), and what an edit of the rules meets first.
 use mathlib.Core.Path.{_≡_, refl}
 use mathlib.Core.List.{List, [], _∷_, map}
@@ -31,9 +31,9 @@ v = record { row = 1; offset = 1; length = 2 }
 abbrev program : Process → Program
 program p = record { declarations = var ∷ array 2 ∷ []; body = p }
 
--- 3 declared words and a stack, all 0
-abbrev words : List ℕ
-words = replicate 19 0
+-- 3 declared words, all 0, and a stack of old words, each w
+abbrev words : ℕ → List ℕ
+words w = 0 ∷ 0 ∷ 0 ∷ replicate 16 w
 
 -- an end's SVC number
 abbrev number : End → ℕ
@@ -50,11 +50,11 @@ on-machine r = r .state .status ∷ r .state .number ∷ take 3 (r .words)
 abbrev of-source : State → List ℕ
 of-source s = 1 ∷ number (s .end) ∷ s .words
 
-abbrev by-image : Process → List ℕ
-by-image p = on-machine (runOf 60 (image (program p)) words (freshOf 3 3))
+abbrev by-image : ℕ → Process → List ℕ
+by-image w p = on-machine (runOf 60 (image (program p)) (words w) (freshOf 3 3))
 
 abbrev by-source : Process → List ℕ
-by-source p = of-source (moves 30 (begin (program p) words))
+by-source p = of-source (moves 30 (begin (program p) (words 0)))
 
 -- x := v[9]: the check comes before the load
 -- x := #80000000 < 1: the difference overflows
@@ -87,8 +87,15 @@ pub source-outcomes : map by-source processes ≡ outcomes
 unfolding data-words shift-right signed-less
 source-outcomes = refl
 
-pub image-outcomes : map by-image processes ≡ outcomes
+pub image-outcomes : map (by-image 0) processes ≡ outcomes
 unfolding image image-code process-code expression-code push-constant check-subscript load-element less-than far-shift work-diadic-code assign-variable store-element choice-code
     take-condition jump-over load-constant trailingZeros leadingZeros bytes bytes-of size encoded-bytes encodeOf put put-long swap32 narrow refusalOf freshOf runOf runFrom onceOf
     fetchOf withSecond decodeOf find table widen executeOf exec.load exec.store slotOf result takes next branch jump link state.moves shift-left shift-right
 image-outcomes = refl
+
+-- a stack that holds old words gives the same: a rule that reads one before it is written may do well on zeros
+pub old-words : map (by-image 9) processes ≡ outcomes
+unfolding image image-code process-code expression-code push-constant check-subscript load-element less-than far-shift work-diadic-code assign-variable store-element choice-code
+    take-condition jump-over load-constant trailingZeros leadingZeros bytes bytes-of size encoded-bytes encodeOf put put-long swap32 narrow refusalOf freshOf runOf runFrom onceOf
+    fetchOf withSecond decodeOf find table widen executeOf exec.load exec.store slotOf result takes next branch jump link state.moves shift-left shift-right
+old-words = refl
