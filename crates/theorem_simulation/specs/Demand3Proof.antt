@@ -54,7 +54,7 @@ chain-append none d = d
 chain-append (also c) d = also (chain-append c d)
 
 module _ (p : Program) (sound : Sound p) (short : length (image p) ≤ 65536) (memory : List ℕ) (lent : Lent p memory) where
-  abbrev pub E : Setting
+  abbrev E : Setting
   E = setting p
 
   -- at x and ever after the simulation sees what it should
@@ -64,7 +64,7 @@ module _ (p : Program) (sound : Sound p) (short : length (image p) ≤ 65536) (m
   later : (x : Point) → Sees x → Sees (step-point E x)
   later x v i = v (suc i)
 
-  pub further : (n : ℕ) (x : Point) → Sees x → Sees (times (step-point E) n x)
+  further : (n : ℕ) (x : Point) → Sees x → Sees (times (step-point E) n x)
   further zero x v = v
   further (suc n) x v = further n (step-point E x) (later x v)
 
