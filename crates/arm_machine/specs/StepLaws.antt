@@ -85,10 +85,7 @@ registers-kept {w} {m} (stored-word d k l) = next-registers m
 registers-kept (ended-by u) = refl
 registers-kept (faulted f l) = refl
 
--- a step leaves as many registers as there were
-pub step-registers : (c w : List ℕ) (m : Machine) → length (stepOf c w m .after .state .machine .regs) ≡ length (m .regs)
-step-registers c w m = registers-kept (step-outcome c w m)
-
+-- an instruction leaves as many registers as there were
 pub once-registers : (c w : List ℕ) (m : Machine) → length (onceOf c w m .after .state .machine .regs) ≡ length (m .regs)
 once-registers c w m = registers-kept (once-outcome c w m)
 
@@ -100,9 +97,6 @@ length-kept (loaded-word d k l) = refl
 length-kept {w} {m} (stored-word d k l) = length-set w k (reg m d)
 length-kept (ended-by u) = refl
 length-kept (faulted f l) = refl
-
-pub step-length : (c w : List ℕ) (m : Machine) → length (stepOf c w m .after .words) ≡ length w
-step-length c w m = length-kept (step-outcome c w m)
 
 pub once-length : (c w : List ℕ) (m : Machine) → length (onceOf c w m .after .words) ≡ length w
 once-length c w m = length-kept (once-outcome c w m)

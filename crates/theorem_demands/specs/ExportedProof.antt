@@ -9,13 +9,13 @@ use Rattle.translate_rules.specs.ImageCode.{image}
 use Rattle.arm_state.specs.State.{base, freshOf}
 use Rattle.arm_state.specs.declared.Machine.{Machine}
 use Rattle.arm_word.specs.Access.{Access}
-use Rattle.arm_machine.specs.StepLaws.{step-length, step-registers}
 use Rattle.arm_machine.specs.Iterations.{run-length, run-registers}
 use Rattle.arm_machine.specs.declared.Started.{Started}
 use Rattle.gutilamboy_numbers.specs.Numbers.{stateWords}
 use Rattle.gutilamboy_numbers.specs.NumberLaws.{state-back}
 use Rattle.gutilamboy.specs.Calls.{left, ofStart, runCall}
 use Rattle.theorem_simulation.specs.Demand3.{Each, D, N, Lent, Call, step, run, Called, call, calls, started, Answered, EndsBy, Demand3}
+use Rattle.theorem_simulation.specs.Iterated.{most, call-is-run}
 use Rattle.theorem_simulation.specs.Demand4.{Alike, Both}
 use Rattle.theorem_demands.specs.DemandsProof.{demands}
 use Rattle.theorem_demands.specs.ExportedDemand.{exported, exported-calls, first-words, InOrder, EndsSo, AtBoundary, SameLeft, Exported}
@@ -30,27 +30,16 @@ count-words (run n) a = a .count ∷ []
 abbrev answer-words : Call → Called → List ℕ
 answer-words k a = a .status ∷ a .number ∷ count-words k a
 
-module _ (code : List ℕ) (k : Call) (w : List ℕ) (m : Machine) where
-  exported-is : length (m .regs) ≡ 8 → let a = call code k w m in exported code k w (stateWords m) ≡ left (answer-words k a) (stateWords (a .machine)) (a .words)
-  exported-is r = by k
-    where
-      by : (k : Call) → let a = call code k w m in exported code k w (stateWords m) ≡ left (answer-words k a) (stateWords (a .machine)) (a .words)
-      by step = rw (state-back m r)
-      by (run n) = rw (state-back m r)
+exported-is : (code : List ℕ) (k : Call) (w : List ℕ) (m : Machine) → length (m .regs) ≡ 8
+    → let a = call code k w m in exported code k w (stateWords m) ≡ left (answer-words k a) (stateWords (a .machine)) (a .words)
+exported-is code step w m r = rw (state-back m r)
+exported-is code (run n) w m r = rw (state-back m r)
 
-  call-registers : length (call code k w m .machine .regs) ≡ length (m .regs)
-  call-registers = by k
-    where
-      by : (k : Call) → length (call code k w m .machine .regs) ≡ length (m .regs)
-      by step = step-registers code w m
-      by (run n) = run-registers n code w m
+call-registers : (code : List ℕ) (k : Call) (w : List ℕ) (m : Machine) → length (call code k w m .machine .regs) ≡ length (m .regs)
+call-registers code k w m = ap (λ (a : Called). length (a .machine .regs)) (call-is-run code k w m) ∙ run-registers (most k) code w m
 
-  call-length : length (call code k w m .words) ≡ length w
-  call-length = by k
-    where
-      by : (k : Call) → length (call code k w m .words) ≡ length w
-      by step = step-length code w m
-      by (run n) = run-length n code w m
+call-length : (code : List ℕ) (k : Call) (w : List ℕ) (m : Machine) → length (call code k w m .words) ≡ length w
+call-length code k w m = ap (λ (a : Called). length (a .words)) (call-is-run code k w m) ∙ run-length (most k) code w m
 
 -- ── demand 3 ──
 

@@ -1,13 +1,14 @@
 -- The machine's own points, and that it follows the abstract machine (`follower`), so that it simulates the source. Definitions and lemmas; they rest on Bridge and Following.
-use mathlib.Core.Path.{_≡_, ap, _∙_}
+use mathlib.Core.Path.{_≡_, sym, ap, subst, _∙_}
 use mathlib.Core.Bool.{true}
 use mathlib.Core.Logic.{_⊎_, inl, inr, ⊎-elim}
 use mathlib.Core.List.{List, _++_, append-nil}
 use Prim.Native.Nat.{ℕ, suc, _+_, _≤_, _<_}
 use native.Mathlib.Omega.{arith}
 use lib.ListN.{getD, length}
+use borrow.Author.Tests.{eqb-true}
 use Rattle.arm_word.specs.Access.{Access}
-use Rattle.x_meaning.specs.SourceRun.{State, move, moves, ends-with}
+use Rattle.x_meaning.specs.SourceRun.{End, going, finish, bad-subscript, State, move, moves, ends-with}
 use Rattle.arm_state.specs.Effects.{After, after, Effect, done, ended, stops, executeOf}
 use Rattle.arm_state.specs.declared.Machine.{Machine}
 use Rattle.arm_machine.specs.Step.{onceOf}
@@ -38,13 +39,25 @@ pub record Completes (E : Setting) (x : Point) : Type 0 where
   pub status : effect-at E x .after .state .status ≡ 0
   pub within : Within (data-of E + E .stack) (effect-at E x .access)
 
--- or it is the SVC that the source's end asks for
-pub record Halts (E : Setting) (s : State) (x : Point) : Type 0 where
-  pub number : ℕ
-  pub effect : effect-at E x ≡ stops (x .words) (ended (x .state) number)
-  pub ends : ends-with (s .end) number ≡ true
+-- or it is an SVC n,
+abbrev pub Svc-at : Setting → ℕ → Point → Type 0
+Svc-at E n x = effect-at E x ≡ stops (x .words) (ended (x .state) n)
+
+-- where nothing changes any more,
+pub svc-stays : (E : Setting) (n : ℕ) (x : Point) → Svc-at E n x → step-point E x ≡ x
+unfolding listed
+svc-stays E n x e = rw e (ap (λ (t : List Access). record { state = x .state; words = x .words; trace = t }) (append-nil (x .trace)))
+
+-- and which the source's end asks for
+pub record Halts (E : Setting) (s : State) (n : ℕ) (x : Point) : Type 0 where
+  pub effect : Svc-at E n x
+  pub ends : ends-with (s .end) n ≡ true
   pub declared : length (s .words) ≡ data-of E
   pub same : (i : ℕ) → i < data-of E → getD (x .words) i 0 ≡ getD (s .words) i 0
+
+-- s being the source's state at some point before
+abbrev pub Does : Setting → State → Point → Type 0
+Does E s x = Completes E x ⊎ ((j n : ℕ) × Halts E (moves j s) n x)
 
 -- what is seen at a point of the machine, s being the source's state at some point before; `first` are the lent words
 pub record Seen (E : Setting) (first : List ℕ) (s : State) (x : Point) : Type 0 where
@@ -54,7 +67,7 @@ pub record Seen (E : Setting) (first : List ℕ) (s : State) (x : Point) : Type 
   pub sp-high : x .state .sp ≤ address (data-of E + E .stack)
   pub all : length (x .words) ≡ length first
   pub untouched : (i : ℕ) → data-of E + E .stack ≤ i → getD (x .words) i 0 ≡ getD first i 0
-  pub does : Completes E x ⊎ ((j : ℕ) × Halts E (moves j s) x)
+  pub does : Does E s x
 
 -- a point of the machine stands for a state of the abstract machine
 pub record Matches (E : Setting) (first : List ℕ) (m : Abstract) (x : Point) : Type 0 where
@@ -64,6 +77,13 @@ pub record Matches (E : Setting) (first : List ℕ) (m : Abstract) (x : Point) :
   pub agrees : Agrees first (memory-of m) (x .words)
   pub whole : length (memory-of m) ≡ data-of E + E .stack
 
+-- an end has one number
+one-number : (e : End) (a b : ℕ) → ends-with e a ≡ true → ends-with e b ≡ true → a ≡ b
+one-number going a b x y = let z : _≡_ {A = ℕ} 0 1 = cc (x) in absurd (omega arith)
+one-number finish a b x y = eqb-true a 0 x ∙ sym (eqb-true b 0 y)
+one-number End.stopped a b x y = eqb-true a 1 x ∙ sym (eqb-true b 1 y)
+one-number bad-subscript a b x y = eqb-true a 2 x ∙ sym (eqb-true b 2 y)
+
 seen-back : (E : Setting) (first : List ℕ) (s : State) (x : Point) → Seen E first (move s) x → Seen E first s x
 seen-back E first s x v = record {
   j = suc (v .j);
@@ -72,7 +92,7 @@ seen-back E first s x v = record {
   sp-high = v .sp-high;
   all = v .all;
   untouched = v .untouched;
-  does = ⊎-elim inl (λ h. inr (suc (h .0), h .1)) (v .does);
+  does = ⊎-elim inl (λ h. inr (suc (h .0), h .1, h .2)) (v .does);
 }
 
 module _ (E : Setting) (ok : Limits E) (first : List ℕ) where
@@ -100,7 +120,7 @@ module _ (E : Setting) (ok : Limits E) (first : List ℕ) where
       }
 
   -- demand 3's facts of an abstract state, carried over
-  seen-of : (s : State) (m : Abstract) (x : Point) → Matches E first m x → Good E s (sp-of m) (memory-of m) (trace-of m) → Completes E x ⊎ ((j : ℕ) × Halts E (moves j s) x) → Seen E first s x
+  seen-of : (s : State) (m : Abstract) (x : Point) → Matches E first m x → Good E s (sp-of m) (memory-of m) (trace-of m) → Does E s x → Seen E first s x
   seen-of s (machine pc r sp rs mem l) x mt q d =
       let e : x .state .sp ≡ sp = ap (λ (m : Machine). m .sp) (mt .is) in
       record {
@@ -113,33 +133,29 @@ module _ (E : Setting) (ok : Limits E) (first : List ℕ) where
         does = d;
       }
 
-  -- where the abstract machine stands at an SVC, so does the machine, and stays
-  pub record Stopped (s : State) (n : ℕ) (x : Point) : Type 0 where
-    pub effect : effect-at E x ≡ stops (x .words) (ended (x .state) n)
-    pub stays : step-point E x ≡ x
-    pub halts : Halts E s x
-
-  pub stopped : (s : State) (m : Abstract) (x : Point) → Matches E first m x → (b : Stands E s m) → Stopped s (b .number) x
-  unfolding executeOf listed
-  stopped s (machine pc r sp rs mem l) x mt b =
-      let at : effect-at E x ≡ stops (x .words) (ended (x .state) (b .number)) = b .at .runs (x .words) (x .state) (ap (λ (m : Machine). m .pc) (mt .is)) in
-      record {
-        effect = at;
-        stays = rw at (ap (λ (t : List Access). record { state = x .state; words = x .words; trace = t }) (append-nil (x .trace)));
-        halts = record { number = b .number; effect = at; ends = b .ends; declared = b .declared; same = λ i h. mt .agrees .same i (getD (s .words) i 0) (b .same i h) };
-      }
+  -- where the abstract machine stands at an SVC, so does the machine
+  pub stopped : (s : State) (m : Abstract) (x : Point) → Matches E first m x → (b : Stands E s m) → Halts E s (b .number) x
+  unfolding executeOf
+  stopped s (machine pc r sp rs mem l) x mt b = record {
+    effect = b .at .runs (x .words) (x .state) (ap (λ (m : Machine). m .pc) (mt .is));
+    ends = b .ends;
+    declared = b .declared;
+    same = λ i h. mt .agrees .same i (getD (s .words) i 0) (b .same i h);
+  }
 
   -- the machine over the lent words follows the abstract machine
   pub follower : Follower E (step-point E) (Matches E first) (Seen E first)
   follower = record {
     goes = λ s m m₁ x mt q g. let c = carried m m₁ x mt g in (seen-of s m x mt q (inl (c .completes)), c .matches);
-    rests = λ s m x mt b. let h = stopped s m x mt b in (h .stays, seen-of s m x mt (b .good) (inr (0, h .halts)));
+    rests = λ s m x mt b. let h = stopped s m x mt b in (svc-stays E (b .number) x (h .effect), seen-of s m x mt (b .good) (inr (0, b .number, h)));
     back = seen-back E first;
   }
 
   -- a source that has ended, and the machine at its SVC
-  pub ended-point : (s : State) (x : Point) (n : ℕ) → Simulated E (Matches E first) s x → ends-with (s .end) n ≡ true → Halts E s x
-  ended-point s x n r h = stopped s (r .abstract-state) x (r .follows) (related-ends ok n (r .related) h) .halts
+  pub ended-point : (s : State) (x : Point) (n : ℕ) → Simulated E (Matches E first) s x → ends-with (s .end) n ≡ true → Halts E s n x
+  ended-point s x n r h =
+      let b = related-ends ok n (r .related) h in
+      subst (λ (n : ℕ). Halts E s n x) (one-number (s .end) (b .number) n (b .ends) h) (stopped s (r .abstract-state) x (r .follows) b)
 
   pub simulated-trace : (s : State) (x : Point) → Simulated E (Matches E first) s x → x .trace ≡ s .trace
   simulated-trace s x r = r .follows .trace ∙ related-trace ok (r .related)

@@ -8,10 +8,10 @@ use Prim.Native.Nat.{ℕ, zero, suc, _+_, _≤_, _<_}
 use native.Mathlib.Omega.{arith}
 use lib.ListN.{getD, length, take, drop, length-drop}
 use lib.Seq.{getD-take, getD-drop, length-take-le, ext-getD}
-use borrow.Author.Tests.{eq-eqb, ne-eqb, le-ltb, le-leb, eqb-true}
+use borrow.Author.Tests.{eq-eqb, ne-eqb, le-ltb, le-leb}
 use Rattle.arm_word.specs.Access.{Access}
 use Rattle.x_program.specs.Tree.{Program}
-use Rattle.x_meaning.specs.SourceRun.{End, going, finish, stopped, bad-subscript, State, move, moves, begin, ends-with}
+use Rattle.x_meaning.specs.SourceRun.{State, move, moves, begin, ends-with}
 use Rattle.translate_rules.specs.ImageCode.{image}
 use Rattle.arm_state.specs.State.{freshOf}
 use Rattle.arm_state.specs.Effects.{Effect, ended}
@@ -19,30 +19,22 @@ use Rattle.arm_state.specs.declared.Machine.{Machine}
 use Rattle.arm_machine.specs.Step.{refusalOf, stepOf}
 use Rattle.arm_machine.specs.MachineRun.{RunAfter, run-after, ran, runFrom, runOf}
 use Rattle.arm_machine.specs.Start.{startRefusal, startOf}
-use Rattle.arm_machine.specs.Trace.{listed}
 use Rattle.arm_machine.specs.declared.Started.{Started}
 use Rattle.x_program.specs.Sound.{Sound}
 use Rattle.theorem_simulation.specs.Demand3.{Each, D, N, needs, Lent, Call, run, tried, Called, call, calls, all-tried, trace-of, started, called, Kept, Ended, Orderly}
 use Rattle.theorem_simulation.specs.Demand3.{Answered, EndsBy, Demand3}
 use Rattle.theorem_simulation.specs.Iterated.{most, call-is-run}
-use Rattle.theorem_simulation.specs.Generic.{times, times-stays}
+use Rattle.theorem_simulation.specs.Generic.{times, times-stays, times-still}
 use Rattle.theorem_simulation.specs.Straight.{address}
 use Rattle.theorem_simulation.specs.Relation.{Setting, data-of}
 use Rattle.theorem_simulation.specs.Following.{Simulated, Follower, always, arrives}
-use Rattle.theorem_simulation.specs.Concrete.{Point, effect-at, step-point, Completes, Halts, Seen, Matches, follower, ended-point, simulated-trace}
+use Rattle.theorem_simulation.specs.Concrete.{Point, effect-at, step-point, svc-stays, Halts, Does, Seen, Matches, follower, ended-point, simulated-trace}
 use Rattle.theorem_simulation.specs.Begin.{setting, first-point, limits, first-simulated}
 
 -- the source's moves, as the generic part counts them
 moves-times : (j : ℕ) (s : State) → times move j s ≡ moves j s
 moves-times zero s = refl
 moves-times (suc j) s = moves-times j (move s)
-
--- an end has one number
-one-number : (e : End) (a b : ℕ) → ends-with e a ≡ true → ends-with e b ≡ true → a ≡ b
-one-number going a b x y = let z : _≡_ {A = ℕ} 0 1 = cc (x) in absurd (omega arith)
-one-number finish a b x y = eqb-true a 0 x ∙ sym (eqb-true b 0 y)
-one-number stopped a b x y = eqb-true a 1 x ∙ sym (eqb-true b 1 y)
-one-number bad-subscript a b x y = eqb-true a 2 x ∙ sym (eqb-true b 2 y)
 
 -- effects one after another, from one point to another
 data Chain (E : Setting) : Point → List Effect → Point → Type 0 where
@@ -82,7 +74,7 @@ module _ (p : Program) (sound : Sound p) (short : length (image p) ≤ 65536) (m
   step-is x v = rw (eq-eqb (refusalOf (image p) (x .words)) 0 (not-refused (x .words) (v 0 .all)))
 
   status-of : (x : Point) → Sees x → (effect-at E x .after .state .status ≡ 0) ⊎ (effect-at E x .after .state .status ≡ 1)
-  status-of x v = ⊎-elim (λ c. inl (c .status)) (λ h. inr (ap (λ (e : Effect). e .after .state .status) (h .1 .effect))) (v 0 .does)
+  status-of x v = ⊎-elim (λ c. inl (c .status)) (λ h. inr (ap (λ (e : Effect). e .after .state .status) (h .2 .effect))) (v 0 .does)
 
   -- a list of words, told from the needed words on
   same-rest : (w : List ℕ) → length w ≡ length memory → ((i : ℕ) → data-of E + E .stack ≤ i → getD w i 0 ≡ getD memory i 0) → drop (needs p) w ≡ drop (needs p) memory
@@ -100,17 +92,17 @@ module _ (p : Program) (sound : Sound p) (short : length (image p) ≤ 65536) (m
   kept x v = record { sp-low = v 0 .sp-low; sp-high = omega (arith, v 0 .sp-high); untouched = same-rest (x .words) (v 0 .all) (v 0 .untouched) }
 
   ended-here : (x : Point) → Sees x → effect-at E x .after .state .status ≡ 1 → Ended p memory (effect-at E x .after .words) (effect-at E x .after .state .number)
-  ended-here x v e = ⊎-elim (λ c. absurd (omega (arith, c .status))) (λ h. by (h .0) (h .1)) (v 0 .does)
+  ended-here x v e = ⊎-elim (λ c. absurd (omega (arith, c .status))) (λ h. by (h .0) (h .1) (h .2)) (v 0 .does)
     where
-      by : (j : ℕ) → Halts E (moves j (begin p memory)) x → Ended p memory (effect-at E x .after .words) (effect-at E x .after .state .number)
-      by j h = rw (h .effect) (record { j = j; ends = h .ends; same-words = same-data (x .words) _ (v 0 .all) (h .declared) (h .same) })
+      by : (j n : ℕ) → Halts E (moves j (begin p memory)) n x → Ended p memory (effect-at E x .after .words) (effect-at E x .after .state .number)
+      by j n h = rw (h .effect) (record { j = j; ends = h .ends; same-words = same-data (x .words) _ (v 0 .all) (h .declared) (h .same) })
 
   orderly : (x : Point) → Sees x → Orderly p memory (effect-at E x)
   orderly x v =
       record {
         no-fault = ⊎-elim (λ e. omega arith) (λ e. omega arith) (status-of x v);
         kept = kept (step-point E x) (later x v);
-        within = ⊎-elim (λ c. rw needs-is at (c .within)) (λ h. rw (h .1 .effect) tt) (v 0 .does);
+        within = ⊎-elim (λ c. rw needs-is at (c .within)) (λ h. rw (h .2 .effect) tt) (v 0 .does);
         ended = ended-here x v;
       }
 
@@ -156,11 +148,6 @@ module _ (p : Program) (sound : Sound p) (short : length (image p) ≤ 65536) (m
   unfolding tried
   tried-none w m = refl
 
-  -- a point at an SVC stays
-  halts-stays : (s : State) (x : Point) → Halts E s x → step-point E x ≡ x
-  unfolding listed
-  halts-stays s x h = rw (h .effect) (ap (λ (t : List Access). record { state = x .state; words = x .words; trace = t }) (append-nil (x .trace)))
-
   -- a run r from x comes to y, by these instructions
   record Runs (x y : Point) (k : ℕ) (es : List Effect) (r : RunAfter) : Type 0 where
     chain : Chain E x es y
@@ -176,15 +163,15 @@ module _ (p : Program) (sound : Sound p) (short : length (image p) ≤ 65536) (m
   runs zero k x v = rw tried-none (record { chain = none; words = refl; state = refl; status = omega arith; count = omega arith; ended = λ e. absurd (omega (arith, e)) })
   runs (suc n) k x v = by (v 0 .does) (runs n (k + 1) (step-point E x) (later x v))
     where
-      by : Completes E x ⊎ ((j : ℕ) × Halts E (moves j (begin p memory)) x)
+      by : Does E (begin p memory) x
           → let x′ = step-point E x in Runs x′ (times (step-point E) n x′) (k + 1) (tried n (image p) (x′ .words) (x′ .state)) (runFrom n (k + 1) (image p) (x′ .words) (x′ .state))
           → Runs x (times (step-point E) n x′) k (tried (suc n) (image p) (x .words) (x .state)) (runFrom (suc n) k (image p) (x .words) (x .state))
       by (inl c) r =
           rw (tried-more x v n (c .status), run-more x v n k (c .status))
           (record { chain = also (r .chain); words = r .words; state = r .state; status = r .status; count = r .count ∙ omega arith; ended = r .ended })
       by (inr h) r =
-          let e : effect-at E x .after .state .status ≡ 1 = ap (λ (e : Effect). e .after .state .status) (h .1 .effect) in
-          let rest = times-stays (step-point E) n (step-point E x) (ap (step-point E) (halts-stays _ x (h .1))) in
+          let e : effect-at E x .after .state .status ≡ 1 = ap (λ (e : Effect). e .after .state .status) (h .2 .effect) in
+          let rest = times-stays (step-point E) n (step-point E x) (ap (step-point E) (svc-stays E (h .1) x (h .2 .effect))) in
           rw (tried-last x v n e, run-last x v n k e, rest)
           (record { chain = also none; words = refl; state = refl; status = omega arith; count = omega arith; ended = ended-here x v })
 
@@ -232,46 +219,36 @@ module _ (p : Program) (sound : Sound p) (short : length (image p) ≤ 65536) (m
 
   -- ── ends ──
 
-  -- an SVC with number c at a point, for the source's state s
-  abbrev At : State → ℕ → Point → Type 0
-  At s c x = (h : Halts E s x) × (h .number ≡ c)
-
   -- a run that ended by SVC c
   record BySvc (c : ℕ) (r : RunAfter) : Type 0 where
     status : r .state .status ≡ 1
     number : r .state .number ≡ c
 
-  run-halts : (x : Point) → Sees x → (s : State) (c : ℕ) → At s c x → (l k : ℕ) → BySvc c (runFrom (suc l) k (image p) (x .words) (x .state))
-  run-halts x v s c (h, e) l k = rw (run-last x v l k (ap (λ (e : Effect). e .after .state .status) (h .effect)), h .effect) (record { status = refl; number = e })
+  run-halts : (x : Point) → Sees x → (s : State) (c : ℕ) → Halts E s c x → (l k : ℕ) → BySvc c (runFrom (suc l) k (image p) (x .words) (x .state))
+  run-halts x v s c h l k = rw (run-last x v l k (ap (λ (e : Effect). e .after .state .status) (h .effect)), h .effect) (record { status = refl; number = refl })
 
   -- where n steps come to an SVC, every run with a limit above n ends by it
-  run-svc : (n : ℕ) (x : Point) → Sees x → (s : State) (c : ℕ) → At s c (times (step-point E) n x) → (limit k : ℕ) → n < limit → BySvc c (runFrom limit k (image p) (x .words) (x .state))
+  run-svc : (n : ℕ) (x : Point) → Sees x → (s : State) (c : ℕ) → Halts E s c (times (step-point E) n x) → (limit k : ℕ) → n < limit → BySvc c (runFrom limit k (image p) (x .words) (x .state))
   run-svc n x v s c h zero k b = absurd (omega arith)
   run-svc zero x v s c h (suc l) k b = run-halts x v s c h l k
   run-svc (suc n) x v s c h (suc l) k b = by (v 0 .does) (run-svc n (step-point E x) (later x v) s c h l (k + 1) (omega arith))
     where
-      by : Completes E x ⊎ ((j : ℕ) × Halts E (moves j (begin p memory)) x) → BySvc c (runFrom l (k + 1) (image p) (step-point E x .words) (step-point E x .state))
+      by : Does E (begin p memory) x → BySvc c (runFrom l (k + 1) (image p) (step-point E x .words) (step-point E x .state))
           → BySvc c (runFrom (suc l) k (image p) (x .words) (x .state))
       by (inl g) ih = rw (run-more x v l k (g .status)) ih
-      by (inr g) ih = run-halts x v s c (subst (At s c) (times-stays (step-point E) (suc n) x (halts-stays _ x (g .1))) h) l k
-
-  -- a point that stays is the last
-  still : (l n : ℕ) (x : Point) → n ≤ l → step-point E (times (step-point E) n x) ≡ times (step-point E) n x → times (step-point E) l x ≡ times (step-point E) n x
-  still l zero x b e = times-stays (step-point E) l x e
-  still zero (suc n) x b e = absurd (omega arith)
-  still (suc l) (suc n) x b e = still l n (step-point E x) (omega arith) e
+      by (inr g) ih = run-halts x v s c (subst (Halts E s c) (times-stays (step-point E) (suc n) x (svc-stays E (g .1) x (g .2 .effect))) h) l k
 
   -- so such a run hands back that point's words, and its accesses are all of the source's
-  run-ends : (n : ℕ) (x : Point) → Sees x → x .trace ≡ [] → (s : State) (c : ℕ) → At s c (times (step-point E) n x) → times (step-point E) n x .trace ≡ s .trace → (limit : ℕ) → n < limit
+  run-ends : (n : ℕ) (x : Point) → Sees x → x .trace ≡ [] → (s : State) (c : ℕ) → Halts E s c (times (step-point E) n x) → times (step-point E) n x .trace ≡ s .trace → (limit : ℕ) → n < limit
       → EndsBy p c (s .words) (s .trace) (call (image p) (run limit) (x .words) (x .state))
   run-ends n x v z s c h t limit b =
       let y = times (step-point E) n x in
-      let q = still limit n x (omega arith) (halts-stays s y (h .0)) in
+      let q = times-still (step-point E) limit n x (omega arith) (svc-stays E c y (h .effect)) in
       let svc = run-svc n x v s c h limit 0 b in
       record {
         by-svc = rw (run-is limit x v) (svc .status);
         number = rw (run-is limit x v) (svc .number);
-        same-words = rw (landed limit x v .0, q) (same-data (y .words) (s .words) (further n x v 0 .all) (h .0 .declared) (h .0 .same));
+        same-words = rw (landed limit x v .0, q) (same-data (y .words) (s .words) (further n x v 0 .all) (h .declared) (h .same));
         same-trace = ap (λ (l : List Access). l ++ trace-of p (tried limit (image p) (x .words) (x .state))) (sym z) ∙ tried-trace limit x v ∙ ap (λ (y : Point). y .trace) q ∙ t;
       }
 
@@ -333,10 +310,9 @@ module _ (p : Program) (sound : Sound p) (short : length (image p) ≤ 65536) (m
           let s = moves j (begin p memory) in
           let y = times (step-point E) i (first-point p memory) in
           let ok = limits p sound short memory lent in
-          let h = ended-point E ok memory s y n r e in
-          let at : At s n y = (h, one-number (s .end) (h .number) n (h .ends) e) in (
+          let h = ended-point E ok memory s y n r e in (
             suc i,
             λ limit b.
                 subst (λ (m : Machine). EndsBy p n (s .words) (s .trace) (call (image p) (run limit) memory m)) (sym started-is)
-                (run-ends i (first-point p memory) seen refl s n at (simulated-trace E ok memory s y r) limit b),
+                (run-ends i (first-point p memory) seen refl s n h (simulated-trace E ok memory s y r) limit b),
           )

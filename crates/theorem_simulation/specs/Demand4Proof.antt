@@ -13,7 +13,7 @@ use Rattle.x_program.specs.Tree.{Program}
 use Rattle.x_program.specs.Sound.{Sound}
 use Rattle.x_meaning.specs.SourceRun.{State, begin}
 use Rattle.translate_rules.specs.ImageCode.{image}
-use Rattle.arm_state.specs.Effects.{Effect, ended, stops}
+use Rattle.arm_state.specs.Effects.{Effect}
 use Rattle.arm_state.specs.declared.Machine.{Machine}
 use Rattle.arm_machine.specs.MachineRun.{RunAfter, runFrom}
 use Rattle.theorem_simulation.specs.Demand3.{D, Lent, Call, run, tried, call, calls, trace-of, started}
@@ -23,7 +23,7 @@ use Rattle.theorem_simulation.specs.Generic.{times}
 use Rattle.theorem_simulation.specs.Abstract.{Abstract, memory-of}
 use Rattle.theorem_simulation.specs.Relation.{Setting, data-of, Limits}
 use Rattle.theorem_simulation.specs.Following.{Follower, always}
-use Rattle.theorem_simulation.specs.Concrete.{Point, effect-at, step-point, Completes, Matches, carried, stopped}
+use Rattle.theorem_simulation.specs.Concrete.{Point, step-point, Completes, Svc-at, svc-stays, Matches, carried, stopped}
 use Rattle.theorem_simulation.specs.Begin.{setting, first-point, limits, abstract-of, first-related, first-matches}
 use Rattle.theorem_simulation.specs.Demand3Proof as one
 
@@ -42,10 +42,6 @@ module _ (E : Setting) (ok : Limits E) (first other : List ℕ) where
   abbrev step-pair : Pair → Pair
   step-pair x = record { left = step-point E (x .left); right = step-point E (x .right) }
 
-  -- at an SVC n
-  abbrev Svc-at : ℕ → Point → Type 0
-  Svc-at n x = effect-at E x ≡ stops (x .words) (ended (x .state) n)
-
   -- both match one state of the abstract machine
   record Match (m : Abstract) (x : Pair) : Type 0 where
     lefts : Matches E first m (x .left)
@@ -56,7 +52,7 @@ module _ (E : Setting) (ok : Limits E) (first other : List ℕ) where
     m : Abstract
     match : Match m x
     known : (i : ℕ) → i < data-of E → (v : ℕ) × (getD (memory-of m) i none ≡ some v)
-    does : (Completes E (x .left) × Completes E (x .right)) ⊎ ((n : ℕ) × Svc-at n (x .left) × Svc-at n (x .right))
+    does : (Completes E (x .left) × Completes E (x .right)) ⊎ ((n : ℕ) × Svc-at E n (x .left) × Svc-at E n (x .right))
 
   -- the two together follow the abstract machine
   follower : Follower E step-pair Match Twins
@@ -66,9 +62,11 @@ module _ (E : Setting) (ok : Limits E) (first other : List ℕ) where
         let b = carried E ok other m m₁ (x .right) (mt .rights) g in
         (record { m = m; match = mt; known = λ i h. (_, q .words i h); does = inl (a .completes, b .completes) }, record { lefts = a .matches; rights = b .matches });
     rests = λ s m x mt b.
-        let a = stopped E ok first s m (x .left) (mt .lefts) b in
-        let c = stopped E ok other s m (x .right) (mt .rights) b in
-        (λ j. record { left = a .stays j; right = c .stays j }, record { m = m; match = mt; known = λ i h. (_, b .same i h); does = inr (b .number, a .effect, c .effect) });
+        let a = stopped E ok first s m (x .left) (mt .lefts) b .effect in
+        let c = stopped E ok other s m (x .right) (mt .rights) b .effect in (
+          λ j. record { left = svc-stays E (b .number) (x .left) a j; right = svc-stays E (b .number) (x .right) c j },
+          record { m = m; match = mt; known = λ i h. (_, b .same i h); does = inr (b .number, a, c) },
+        );
     back = λ s x t. record { m = t .m; match = t .match; known = t .known; does = t .does };
   }
 
@@ -96,18 +94,13 @@ module _ (p : Program) (sound : Sound p) (short : length (image p) ≤ 65536) (m
   later : (x : Pair) → Sees x → Sees (pair x)
   later x v = record { lefts = λ i. v .lefts (suc i); rights = λ i. v .rights (suc i); twins = λ i. v .twins (suc i) }
 
-  further : (n : ℕ) (x : Pair) → Sees x → Sees (times pair n x)
+  -- n steps of both
+  abbrev ahead : ℕ → Pair → Pair
+  ahead n x = record { left = times (step-point E) n (x .left); right = times (step-point E) n (x .right) }
+
+  further : (n : ℕ) (x : Pair) → Sees x → Sees (ahead n x)
   further zero x v = v
   further (suc n) x v = further n (pair x) (later x v)
-
-  -- n steps of a pair are n steps of each
-  left-times : (n : ℕ) (x : Pair) → times pair n x .left ≡ times (step-point E) n (x .left)
-  left-times zero x = refl
-  left-times (suc n) x = left-times n (pair x)
-
-  right-times : (n : ℕ) (x : Pair) → times pair n x .right ≡ times (step-point E) n (x .right)
-  right-times zero x = refl
-  right-times (suc n) x = right-times n (pair x)
 
   same-words : (x : Pair) → Alike-at x → Agree p (x .left .words) (x .right .words)
   same-words x t =
@@ -131,8 +124,7 @@ module _ (p : Program) (sound : Sound p) (short : length (image p) ≤ 65536) (m
   same-tried n x v =
       let a = one.tried-trace p sound short memory lent n (x .left) (v .lefts) in
       let b = one.tried-trace p sound short other lent′ n (x .right) (v .rights) in
-      let e : times (step-point E) n (x .left) .trace ≡ times (step-point E) n (x .right) .trace
-      = ap (λ (y : Point). y .trace) (sym (left-times n x)) ∙ same-trace (times pair n x) (v .twins n) ∙ ap (λ (y : Point). y .trace) (right-times n x) in
+      let e = same-trace (ahead n x) (further n x v .twins 0) in
       let made = trace-of p (tried n (image p) (x .right .words) (x .right .state)) in
       append-cancel (x .left .trace) (a ∙ e ∙ sym b ∙ ap (λ (l : List Access). l ++ made) (sym (same-trace x (v .twins 0))))
 
@@ -149,7 +141,7 @@ module _ (p : Program) (sound : Sound p) (short : length (image p) ≤ 65536) (m
   same-end zero k x v = unfold runFrom in record { status = refl; number = refl; count = refl }
   same-end (suc n) k x v = by (v .twins 0 .does) (same-end n (k + 1) (pair x) (later x v))
     where
-      by : (Completes E (x .left) × Completes E (x .right)) ⊎ ((c : ℕ) × Svc-at E ok memory other c (x .left) × Svc-at E ok memory other c (x .right)) → Same n (k + 1) (pair x) → Same (suc n) k x
+      by : (Completes E (x .left) × Completes E (x .right)) ⊎ ((c : ℕ) × Svc-at E c (x .left) × Svc-at E c (x .right)) → Same n (k + 1) (pair x) → Same (suc n) k x
       by (inl (a, b)) ih = rw (one.run-more p sound short memory lent (x .left) (v .lefts) n k (a .status), one.run-more p sound short other lent′ (x .right) (v .rights) n k (b .status)) ih
       by (inr (c, a, b)) ih =
           let e = one.run-last p sound short memory lent (x .left) (v .lefts) n k (ap (λ (e : Effect). e .after .state .status) a) in
@@ -168,16 +160,15 @@ module _ (p : Program) (sound : Sound p) (short : length (image p) ≤ 65536) (m
         number = rw (a, b) (s .number);
         count = rw (a, b) (s .count);
         trace = same-tried n x v;
-        words = rw (l, r, ← (left-times n x), ← (right-times n x)) (same-words (times pair n x) (v .twins n));
+        words = rw (l, r) (same-words (ahead n x) (further n x v .twins 0));
       }
 
   lists : (ks : List Call) (x : Pair) → Sees x → Both (Alike p) (calls (image p) ks (x .left .words) (x .left .state)) (calls (image p) ks (x .right .words) (x .right .state))
   lists [] x v = unfold calls in tt
   lists (k ∷ ks) x v =
       let n = most k in
-      let more = lists ks (times pair n x) (further n x v) in
       rw (one.calls-at p sound short memory lent k ks (x .left) (v .lefts), one.calls-at p sound short other lent′ k ks (x .right) (v .rights))
-      (alike n x v, rw (left-times n x, right-times n x) at more)
+      (alike n x v, lists ks (ahead n x) (further n x v))
 
   -- ── from the start ──
 

@@ -2,7 +2,7 @@
 -- No step needs a move of its own, and a move may take no step as long as a size falls; so either side may run on without the other being stuck.
 use mathlib.Core.Path.{_≡_, refl, ap, _∙_}
 use mathlib.Core.Logic.{_⊎_, inl, inr}
-use Prim.Native.Nat.{ℕ, zero, suc, _+_, _<_}
+use Prim.Native.Nat.{ℕ, zero, suc, _+_, _≤_, _<_}
 use native.Mathlib.Omega.{arith}
 use native.Mathlib.Decide.{decLt}
 
@@ -14,6 +14,12 @@ times f (suc n) x = times f n (f x)
 pub times-stays : {A : Type 0} (f : A → A) (n : ℕ) (x : A) → f x ≡ x → times f n x ≡ x
 times-stays f zero x e = refl
 times-stays f (suc n) x e = ap (times f n) e ∙ times-stays f n x e
+
+-- what stays is the last
+pub times-still : {A : Type 0} (f : A → A) (l n : ℕ) (x : A) → n ≤ l → f (times f n x) ≡ times f n x → times f l x ≡ times f n x
+times-still f l zero x h e = times-stays f l x e
+times-still f zero (suc n) x h e = absurd (omega arith)
+times-still f (suc l) (suc n) x h e = times-still f l n (f x) (omega arith) e
 
 -- n steps to z, with Q before each
 pub data Run {M : Type 0} (step : M → M) (Q : M → Type 0) (z : M) : ℕ → M → Type 0 where
