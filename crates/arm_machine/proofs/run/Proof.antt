@@ -7,7 +7,7 @@ use native.Mathlib.Omega.{arith}
 use denote.Ref.{now}
 use lib.ListN.{length}
 use borrow.Author.Needs.{needs}
-use borrow.Author.Tests.{eq-eqb, ne-eqb}
+use borrow.Author.Tests.{ne-eqb}
 use Rattle.arm_state.specs.MachineCore.{whole, stepped}
 use Rattle.arm_state.specs.Effects.{after, fault}
 use Rattle.arm_state.specs.declared.Machine.{Machine}

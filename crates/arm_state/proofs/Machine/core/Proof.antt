@@ -3,10 +3,8 @@
 use mathlib.Core.Path.{_≡_, sym, ap}
 use mathlib.Core.List.{List}
 use Prim.Native.Nat.{ℕ}
-use native.Mathlib.Omega.{arith}
 use lib.ListN.{length}
 use Rattle.arm_state.specs.MachineCoreLaws.{elements, elements-are}
-use Rattle.arm_state.specs.declared.Machine.{Machine}
 use borrow.Author.Needs.{needs}
 use Rattle.arm_state.proofs.Machine.core.Statement.{statement}
 use Rattle.arm_state.proofs.Machine.core.Tie as tie
