@@ -1,12 +1,10 @@
--- The text of an instruction has at most 42 bytes; text chosen by a number. Laws; rests on Mnemonic.
+-- The text of an instruction has at most 42 bytes. Laws; rests on Mnemonic.
 -- Assumes nothing.
-use mathlib.Core.Path.{_≡_, sym, ap, _∙_}
-use mathlib.Core.List.{List, _++_}
+use mathlib.Core.List.{List}
 use Prim.Native.Nat.{ℕ, _+_, _*_, _≤_}
 use native.Mathlib.Omega.{arith}
 use lib.ListN.{length, length-append}
 use Rattle.text_lines.specs.Ascii.{ascii}
-use Rattle.text_lines.specs.Text.{fitted}
 use Rattle.text_lines.specs.LineLaws.{length-digits}
 use Rattle.arm_encoding.specs.declared.Instr.{Instr}
 use Rattle.arm_encoding.specs.declared.Instr.the-variants.{Shli, Shri, Ashri, Addr, Subr, Movi, Addi, Subi, Ldrpci, Strspi, Ldrspi, Addpci, Addspi, Andr, Xorr, Shl, Shr, Negr, Orr, Mul}
@@ -68,7 +66,3 @@ length-instruction at (Bge k) = omega (arith, length-branch (ascii "BGE ") at k)
 length-instruction at (Blt k) = omega (arith, length-branch (ascii "BLT ") at k)
 length-instruction at (Bu k) = omega (arith, length-branch (ascii "BU ") at k)
 length-instruction at (Bl k) = omega (arith, length-branch (ascii "BL ") at k)
-
--- text that a number chose, by another name for the number
-pub numbered : (f : ℕ → List ℕ) (j : ℕ) {k : ℕ} (l z : List ℕ) → z ≡ fitted (l ++ f j) → k ≡ j → z ≡ fitted (l ++ f k)
-numbered f j l z p q = p ∙ sym (ap (λ (n : ℕ). fitted (l ++ f n)) q)
