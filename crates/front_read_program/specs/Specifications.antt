@@ -3,7 +3,7 @@ use mathlib.Core.Path.{_≡_, refl, ap, _∙_}
 use mathlib.Core.Bool.{Bool}
 use mathlib.Core.List.{List, _∷_}
 use mathlib.Core.Logic.{_⊎_, inl, inr}
-use Prim.Native.Nat.{ℕ, zero, suc, _+_, _<_, _≤_}
+use Prim.Native.Nat.{ℕ, zero, suc, _+_, _^_, _<_, _≤_}
 use native.Mathlib.Omega.{arith}
 use lib.Dec.{eqb}
 use lib.ListN.{length, getD}
@@ -57,6 +57,10 @@ module _ (kinds values : List ℕ) (k : ℕ) where
 
 pub one-or-two : (k : ℕ) → 1 ≤ k → k ≤ 2 → (k ≡ 1) ⊎ (k ≡ 2)
 one-or-two k l h = by-test (λ (b : Bool). (k ≡ 1) ⊎ (k ≡ 2)) (eqb k 1) (λ e. inl (eqb-true k 1 e)) (λ e. let z = eqb-false k 1 e in inr (omega arith))
+
+-- a place at most 1,024 after a token of the array fits in 64 bits
+pub few-on : (kinds : List ℕ) (i k d : ℕ) → getD kinds i 0 ≡ k → 0 < k → length kinds ≤ 1024 → d ≤ 1024 → i + d < 2 ^ 64
+few-on kinds i k d e p h l = let z = inside kinds i k e p in omega arith
 
 -- a whole specification that was read up to j, and its `;`
 pub ended-part : (kinds values : List ℕ) (i j d : ℕ) (s : Specification) → i + d < j → j ≤ length kinds → declared-by s ≡ d
