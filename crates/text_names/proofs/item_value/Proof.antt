@@ -1,13 +1,8 @@
 -- `text_names::item_value` meets its contract, test by test.
 -- Assumes nothing.
-use mathlib.Core.Path.{refl}
-use borrow.Author.Tests.{eq-eqb, ne-eqb}
-use Rattle.arm_word.specs.ChoiceLaws.{pick-t, pick-f}
+use Rattle.arm_word.specs.Tests.{tests}
 use Rattle.text_names.proofs.item_value.Statement.{statement}
 use Rattle.text_names.proofs.item_value.Tie as tie
 
 pub item-value-spec : {M : Type 1} → statement M
-item-value-spec = tie.close (tie.spec
-    (λ c. pick-t _ _ _ _ (eq-eqb _ _ (c .if1 .taken)) refl)
-    (λ c. pick-f _ _ _ _ (ne-eqb _ _ (c .before .if1 .left)) (pick-t _ _ _ _ (eq-eqb _ _ (c .if2 .taken)) refl))
-    (λ c. pick-f _ _ _ _ (ne-eqb _ _ (c .before .if1 .left)) (pick-f _ _ _ _ (ne-eqb _ _ (c .if2 .left)) refl)))
+item-value-spec = tie.close (tie.spec (λ c. search tests) (λ c. search tests) (λ c. search tests))
