@@ -1,7 +1,8 @@
--- Words of 32 bits and what every layer shares: choice by a test, arithmetic on words, entries of the access list.
+-- Words of 32 bits and what every layer shares: choice by a test, quoted texts, arithmetic on words, entries of the access list.
 pub mod Choice
 pub mod ChoiceLaws
 pub mod Word
 pub mod Access
+pub mod Ascii
 pub mod WordLaws
 pub mod Tests

@@ -10,7 +10,7 @@ use lib.ListN.{length, length-append, take, drop}
 use lib.Seq.{take-all}
 use Rattle.arm_word.specs.Choice.{pick}
 use Rattle.arm_word.specs.ChoiceLaws.{by-test}
-use Rattle.text_lines.specs.Ascii.{ascii}
+use Rattle.arm_word.specs.Ascii.{ascii}
 use Rattle.text_lines.specs.Text.{fitted, hexadecimal}
 use Rattle.text_lines.specs.Back.{number, hexadecimal-back}
 use Rattle.arm_encoding.specs.declared.Instr.{Instr}

@@ -6,7 +6,7 @@ use lib.Dec.{eqb, leb}
 use Rattle.x_tokens.specs.Refusals as refusal
 use Rattle.arm_word.specs.Choice.{pick}
 use Rattle.arm_state.specs.State.{needed}
-use Rattle.text_lines.specs.Ascii.{ascii}
+use Rattle.arm_word.specs.Ascii.{ascii}
 use Rattle.text_lines.specs.Text.{decimal, entry}
 use Rattle.text_position.specs.Position.{line-of, column-of, shown-line, caret-line}
 use Rattle.text_refusal.specs.Refusal.{reason-of}

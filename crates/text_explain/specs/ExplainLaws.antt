@@ -14,7 +14,7 @@ use Rattle.x_tokens.specs.TokenList as token
 use Rattle.x_verdict.specs.Front.{Outcome, refused, accepted, tokened, front}
 use Rattle.x_verdict.specs.Refused.{refusal, accepted-sound}
 use Rattle.arm_state.specs.State.{needed}
-use Rattle.text_lines.specs.Ascii.{ascii}
+use Rattle.arm_word.specs.Ascii.{ascii}
 use Rattle.text_lines.specs.Text.{fitted}
 use Rattle.text_lines.specs.LineLaws.{length-digits}
 use Rattle.text_position.specs.Position.{line-of, column-of, shown-line, caret-line}

@@ -1,7 +1,7 @@
 -- Lines of the instructions that no image has: what the listing's comparison with a second rendering can't see. Laws; rests on Mnemonic.
 use mathlib.Core.Path.{_≡_, refl}
 use mathlib.Core.List.{[], _∷_, map}
-use Rattle.text_lines.specs.Ascii.{ascii}
+use Rattle.arm_word.specs.Ascii.{ascii}
 use Rattle.text_lines.specs.Text.{digits}
 use Rattle.arm_encoding.specs.declared.Instr.the-variants.{Ashri, Ldrpci, Addpci, Addspi, Stri, Ldri, Bge, Blt, Bu}
 use Rattle.text_mnemonic.specs.Mnemonic.{instruction}

@@ -11,7 +11,7 @@ use Rattle.x_grammar.specs.Automaton as automaton
 use Rattle.x_grammar.specs.Automaton.{reads}
 use Rattle.x_names.specs.Scope.{Meaning, unknown, variable, array, constant, Entry, Scope, empty-scope, declare-all}
 use Rattle.x_verdict.specs.Symbols.{text-of, symbols}
-use Rattle.text_lines.specs.Ascii.{ascii}
+use Rattle.arm_word.specs.Ascii.{ascii}
 use Rattle.text_lines.specs.Text.{decimal}
 use Rattle.text_position.specs.Position.{spaces}
 

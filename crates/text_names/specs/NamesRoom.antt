@@ -23,7 +23,7 @@ use Rattle.x_grammar.specs.GrammarExact.{accepted-text}
 use Rattle.x_names.specs.Scope.{Scope, empty-scope, constant-word, declare, declare-all}
 use Rattle.x_verdict.specs.Symbols.{entry-at, text-of, symbols}
 use Rattle.x_verdict.specs.Count.{few-tokens}
-use Rattle.text_lines.specs.Ascii.{ascii}
+use Rattle.arm_word.specs.Ascii.{ascii}
 use Rattle.text_lines.specs.Text.{decimal}
 use Rattle.text_lines.specs.LineLaws.{length-digits}
 use Rattle.text_names.specs.Names.{columns, data-head, val-head, val-tail, name-lines, program-scope, token-scope, names-of, names-limit}

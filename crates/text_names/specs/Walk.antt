@@ -24,7 +24,7 @@ use Rattle.x_names.specs.Scope.{Meaning, variable, array, constant, Entry, Scop
 use Rattle.front_names_table.specs.View.{text-at}
 use Rattle.front_names_judge.specs.Judge.{constant-at, specification-at, width}
 use Rattle.front_names_bind.specs.Here.{specification-here, comment-here}
-use Rattle.text_lines.specs.Ascii.{ascii}
+use Rattle.arm_word.specs.Ascii.{ascii}
 use Rattle.text_buffer.specs.Buffer as buffer
 use Rattle.text_buffer.specs.Buffer.{placed}
 use Rattle.text_buffer.specs.BufferLaws.{none, then}

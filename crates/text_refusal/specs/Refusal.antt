@@ -11,7 +11,7 @@ use Rattle.x_spelling.specs.Characters.{one-of}
 use Rattle.x_tokens.specs.TokenList as token
 use Rattle.x_tokens.specs.TokenList.{Entry}
 use Rattle.x_grammar.specs.Grammar.{is-diadic}
-use Rattle.text_lines.specs.Ascii.{ascii}
+use Rattle.arm_word.specs.Ascii.{ascii}
 use Rattle.text_refusal.specs.declared.Near.{Near}
 
 -- ── a sentence a number ──

@@ -18,7 +18,7 @@ use Rattle.translate_rules.specs.InstructionBytes.{bytes-of, bytes}
 use Rattle.translate_rules.specs.Constant.{load-constant}
 use Rattle.translate_rules.specs.Blocks.{push-constant, work-diadic-code, assign-variable}
 use Rattle.translate_rules.specs.ImageCode.{expression-code, process-code, image-code, image}
-use Rattle.text_lines.specs.Ascii.{ascii}
+use Rattle.arm_word.specs.Ascii.{ascii}
 use Rattle.text_lines.specs.Text.{digits, summary}
 use Rattle.translate_source.specs.Translate.{translation}
 use Rattle.text_report.specs.Report.{report-of}

@@ -5,7 +5,7 @@ use Prim.Native.Nat.{ℕ, _≤_}
 use native.Mathlib.Omega.{arith}
 use lib.ListN.{replicate}
 use lib.Dec.{lit≤}
-use Rattle.text_lines.specs.Ascii.{ascii}
+use Rattle.arm_word.specs.Ascii.{ascii}
 use Rattle.x_spelling.specs.Characters.{one-of, digit-value, name-character, span, numeral}
 use Rattle.x_spelling.specs.Words.{same, word, middle-word, late-word}
 use Rattle.x_tokens.specs.Lexemes as lexemes

@@ -5,7 +5,7 @@ use Prim.Native.Nat.{ℕ}
 use lib.ListN.{take, replicate}
 use lib.Count.{trailingZeros, leadingZeros}
 use Rattle.arm_word.specs.Word.{shift-left, shift-right}
-use Rattle.text_lines.specs.Ascii.{ascii}
+use Rattle.arm_word.specs.Ascii.{ascii}
 use Rattle.x_spelling.specs.Characters.{one-of, digit-value, name-character, span, numeral}
 use Rattle.x_spelling.specs.Words.{same, word, middle-word, late-word}
 use Rattle.x_tokens.specs.Lexemes as lexemes

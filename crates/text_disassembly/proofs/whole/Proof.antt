@@ -5,7 +5,7 @@ use mathlib.Core.List.{List, [], _++_}
 use Prim.Native.Nat.{ℕ}
 use borrow.Author.Tests.{lt-ltb, le-ltb}
 use Rattle.arm_word.specs.ChoiceLaws.{pick-t, pick-f}
-use Rattle.text_lines.specs.Ascii.{ascii}
+use Rattle.arm_word.specs.Ascii.{ascii}
 use Rattle.text_lines.specs.Text.{written, fitted, hexadecimal}
 use Rattle.text_lines.specs.LineLaws.{joined}
 use Rattle.text_disassembly.specs.Disassembly.{second}

@@ -4,7 +4,7 @@ use mathlib.Core.Path.{refl, sym, ap, _∙_}
 use mathlib.Core.List.{List, _++_}
 use Prim.Native.Nat.{ℕ}
 use Rattle.arm_word.specs.ChoiceLaws.{pick-t, pick-f}
-use Rattle.text_lines.specs.Ascii.{ascii}
+use Rattle.arm_word.specs.Ascii.{ascii}
 use Rattle.text_buffer.specs.Buffer.{placed}
 use Rattle.text_buffer.specs.BufferLaws.{then}
 use Rattle.text_refusal.specs.Refusal.{reason-of}

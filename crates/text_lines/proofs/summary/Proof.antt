@@ -6,7 +6,7 @@ use Prim.Native.Nat.{ℕ}
 use borrow.Author.Needs.{needs}
 use Rattle.text_lines.specs.Text as spec
 use Rattle.text_lines.specs.Text.{written, fitted, summary}
-use Rattle.text_lines.specs.Ascii.{ascii}
+use Rattle.arm_word.specs.Ascii.{ascii}
 use Rattle.text_lines.specs.LineLaws.{joined, summary-fits}
 use Rattle.text_lines.proofs.summary.Statement.{statement}
 use Rattle.text_lines.proofs.summary.Tie as tie

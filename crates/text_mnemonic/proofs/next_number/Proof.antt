@@ -2,7 +2,7 @@
 -- Assumes nothing.
 use borrow.Author.Needs.{needs}
 use Rattle.text_lines.specs.Text.{written, decimal}
-use Rattle.text_lines.specs.Ascii.{ascii}
+use Rattle.arm_word.specs.Ascii.{ascii}
 use Rattle.text_lines.specs.LineLaws.{joined}
 use Rattle.text_mnemonic.proofs.next_number.Statement.{statement}
 use Rattle.text_mnemonic.proofs.next_number.Tie as tie

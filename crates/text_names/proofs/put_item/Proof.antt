@@ -6,7 +6,7 @@ use Prim.Native.Nat.{ℕ}
 use native.Mathlib.Omega.{arith}
 use borrow.Author.Tests.{eq-eqb, ne-eqb}
 use Rattle.arm_word.specs.ChoiceLaws.{pick-t, pick-f}
-use Rattle.text_lines.specs.Ascii.{ascii}
+use Rattle.arm_word.specs.Ascii.{ascii}
 use Rattle.text_lines.specs.Text.{written, fitted}
 use Rattle.text_buffer.specs.Buffer.{placed}
 use Rattle.text_names.specs.Names.{data-head, val-head, val-tail}
