@@ -1,7 +1,7 @@
 -- Two reports worked out from the source's bytes: document 01's own, and one whose five counts all differ. Laws; assumes nothing.
 use mathlib.Core.Path.{_≡_, refl}
 use Rattle.x_spelling.specs.Characters.{one-of, digit-value, name-character, span, numeral}
-use Rattle.x_spelling.specs.Words.{same, word, middle-word, late-word}
+use Rattle.x_spelling.specs.Words.{same, reserved, first-match}
 use Rattle.x_tokens.specs.Lexemes as lexemes
 use Rattle.x_tokens.specs.Lexemes.{double, single, symbol, lexeme}
 use Rattle.x_tokens.specs.TokenList.{scan, outcome}
@@ -25,12 +25,12 @@ use Rattle.text_report.specs.Report.{report-of}
 
 -- The report program: "For `skip;` the whole output is"
 pub skip-case : report-of (ascii "skip;") ≡ ascii "status=6\nplace=4\ntokens=0\nrows=0\ndata=0\ndepth=0\ncode=0\n"
-unfolding report-of translation front outcome scan lexeme lexemes.named double single symbol one-of digit-value name-character span same word middle-word reads run symbols unread-place summary digits
+unfolding report-of translation front outcome scan lexeme lexemes.named double single symbol one-of digit-value name-character span same reserved first-match reads run symbols unread-place summary digits
 skip-case = refl
 
 -- Marked and other cases: "`var x; x := 2 + 3`: 8 tokens, D 1, N 2", five rows; its sixteen instructions have 32 bytes
 pub sum-case : report-of (ascii "var x; x := 2 + 3") ≡ ascii "status=0\nplace=0\ntokens=8\nrows=5\ndata=1\ndepth=2\ncode=32\n"
-unfolding report-of translation front outcome scan lexeme lexemes.named lexemes.number double single symbol one-of digit-value name-character span numeral same word middle-word late-word
+unfolding report-of translation front outcome scan lexeme lexemes.named lexemes.number double single symbol one-of digit-value name-character span numeral same reserved first-match
     reads run symbols entry-at named least lookup data-words row-count count count-process image image-code process-code expression-code push-constant load-constant work-diadic-code
     assign-variable bytes bytes-of encoded-bytes encodeOf put summary digits
 sum-case = refl

@@ -7,7 +7,7 @@ use lib.ListN.{replicate}
 use lib.Dec.{lit≤}
 use Rattle.arm_word.specs.Ascii.{ascii}
 use Rattle.x_spelling.specs.Characters.{one-of, digit-value, name-character, span, numeral}
-use Rattle.x_spelling.specs.Words.{same, word, middle-word, late-word}
+use Rattle.x_spelling.specs.Words.{same, reserved, first-match}
 use Rattle.x_tokens.specs.Lexemes as lexemes
 use Rattle.x_tokens.specs.Lexemes.{double, single, symbol, lexeme}
 use Rattle.x_tokens.specs.TokenList.{scan, outcome}
@@ -33,7 +33,7 @@ abbrev memory : List ℕ
 memory = replicate 13 0xFFFFFFFF
 
 accepted-five : front source 32 640 ≡ accepted 8 five
-unfolding front outcome scan lexeme lexemes.named lexemes.number double single symbol one-of digit-value name-character span numeral same word middle-word late-word automaton.reads automaton.run
+unfolding front outcome scan lexeme lexemes.named lexemes.number double single symbol one-of digit-value name-character span numeral same reserved first-match automaton.reads automaton.run
     symbols entry-at unread-place named least lookup
 accepted-five = refl
 

@@ -7,7 +7,7 @@ use lib.Count.{trailingZeros, leadingZeros}
 use Rattle.arm_word.specs.Word.{shift-left, shift-right}
 use Rattle.arm_word.specs.Ascii.{ascii}
 use Rattle.x_spelling.specs.Characters.{one-of, digit-value, name-character, span, numeral}
-use Rattle.x_spelling.specs.Words.{same, word, middle-word, late-word}
+use Rattle.x_spelling.specs.Words.{same, reserved, first-match}
 use Rattle.x_tokens.specs.Lexemes as lexemes
 use Rattle.x_tokens.specs.Lexemes.{double, single, symbol, lexeme}
 use Rattle.x_tokens.specs.TokenList.{scan, outcome}
@@ -110,7 +110,7 @@ answers =
     ∷ []
 
 pub starred : map comes-to cases ≡ answers
-unfolding front outcome scan lexeme lexemes.named lexemes.number double single symbol one-of digit-value name-character span numeral same word middle-word late-word reads run
+unfolding front outcome scan lexeme lexemes.named lexemes.number double single symbol one-of digit-value name-character span numeral same reserved first-match reads run
     symbols entry-at unread-place named least lookup data-words table-of row-count rows count rows-process count-process declared-rows translation image image-code process-code
     expression-code push-constant less-than far-shift work-diadic-code assign-variable load-constant trailingZeros leadingZeros bytes bytes-of size encoded-bytes encodeOf put put-long
     swap32 narrow widen startOf startRefusal refusalOf freshOf runOf runFrom onceOf fetchOf withSecond decodeOf find table executeOf exec.load exec.store slotOf result takes next

@@ -1,6 +1,6 @@
 -- Runs of bytes, numerals, membership and sameness, byte by byte at an index. Laws.
 -- Rests on Characters and Words.
-use mathlib.Core.Path.{_≡_, refl, sym, ap, _∙_}
+use mathlib.Core.Path.{_≡_, refl, ap}
 use mathlib.Core.Bool.{Bool, true, false}
 use mathlib.Core.List.{List, [], _∷_}
 use Prim.Native.Nat.{ℕ, suc, _+_, _-_, _*_, _<_, _≤_, min}
@@ -15,7 +15,6 @@ use Rattle.arm_word.specs.Choice.{pick}
 use Rattle.arm_word.specs.ChoiceLaws.{pick-false, by-test, both}
 use Rattle.x_spelling.specs.Characters.{one-of, in-class, digit, digit-value, span, numeral}
 use Rattle.x_spelling.specs.Words.{same}
-use Rattle.x_spelling.specs.declared.Word.{Word}
 use Rattle.x_spelling.specs.declared.Class.{Class}
 
 module _ (s : List ℕ) (j : ℕ) where
@@ -111,12 +110,13 @@ same-equal (x ∷ a) (y ∷ b) e =
     let t = same-equal a b q in
     cc
 
+pub same-itself : (a : List ℕ) → same a a ≡ true
+unfolding same
+same-itself [] = refl
+same-itself (x ∷ a) = rw (eq-eqb x x refl) (same-itself a)
+
 -- a run is no longer than what it stands in
 pub span-length : (c : Class) (bs : List ℕ) → span c bs ≤ length bs
 unfolding span
 span-length c [] = omega arith
 span-length c (b ∷ bs) = let h = span-length c bs in by-test (λ (t : Bool). pick t (suc (span c bs)) 0 ≤ suc (length bs)) (in-class c b) (λ t. omega arith) (λ t. omega arith)
-
--- a name that was found the same as a reserved word stands for what that word does
-pub told : (f : List ℕ → Word) (w t : List ℕ) (b : Bool) (r : Word) → b ≡ same w t → b ≡ true → r ≡ f t → r ≡ f w
-told f w t b r e h q = q ∙ ap f (sym (same-equal w t (sym e ∙ h)))

@@ -2,12 +2,14 @@
 pub mod kind;
 
 ghost use mathlib.Core.Path.{_≡_};
+ghost use mathlib.Core.List.{[], _∷_};
 ghost use Prim.Native.Nat.{_+_, _*_, _≤_, min};
 ghost use lib.ListN.{length, getD, drop};
 ghost use Rattle.x_spelling.specs.Characters.{one-of, in-class};
 ghost use Rattle.x_spelling.specs.Characters as characters;
 ghost use Rattle.x_spelling.specs.Words.{same};
 ghost use Rattle.x_spelling.specs.Words as words;
+ghost use Rattle.x_spelling.specs.WordLookup as lookup;
 
 // The classes that runs of bytes are of: a name's, a comment's, the digits of a base.
 pub enum Class {
@@ -16,11 +18,26 @@ pub enum Class {
     Digit(u64),
 }
 
-// What the bytes of a name stand for.
+// What the bytes of a name stand for: the kind and the value of their token.
 pub struct Word {
     pub kind: u8,
     pub value: u32,
 }
+
+// What a name was found to be: a reserved word, with its token, or free to be declared.
+pub enum Found {
+    Reserved(Word),
+    Free,
+}
+
+// What a name was found to be, and with how many reserved words it was compared in full.
+pub struct Lookup {
+    pub found: Found,
+    pub compared: u32,
+}
+
+// The word of `true`.
+const TRUE: u32 = 0xffff_ffff;
 
 pub fn one_of(set: &[u8], b: u8) -> bool
     ensures { λ r. ⌜ r ≡ one-of (now (set .entry)) b ⌝ }
@@ -191,89 +208,126 @@ fn is(kind: u8, value: u32) -> Word
     Word { kind, value }
 }
 
-// The reserved words in three parts, since the proof's cost grows faster than the number of tests: `then` to `xor`, or a name.
-fn late_word(w: &[u8]) -> Word
-    requires { ⌜ length (now w) ≤ 32 ⌝ }
-    ensures { λ r. ⌜ r ≡ words.late-word (now (w .entry)) ⌝ }
+fn looked(found: Found, compared: u32) -> Lookup
+    ensures { λ r. ⌜ r ≡ lookup.looked found compared ⌝ }
 {
-    if equal(w, b"then") {
-        return is(kind::THEN, 0);
-    }
-    if equal(w, b"true") {
-        return is(kind::NUMBER, 0xffff_ffff);
-    }
-    if equal(w, b"val") {
-        return is(kind::VAL, 0);
-    }
-    if equal(w, b"valof") {
-        return is(kind::VALOF, 0);
-    }
-    if equal(w, b"var") {
-        return is(kind::VAR, 0);
-    }
-    if equal(w, b"while") {
-        return is(kind::WHILE, 0);
-    }
-    if equal(w, b"xor") {
-        return is(kind::XOR, 0);
-    }
-    is(kind::NAME, w.len() as u32)
+    Lookup { found, compared }
 }
 
-// `is` to `stop`.
-fn middle_word(w: &[u8]) -> Word
-    requires { ⌜ length (now w) ≤ 32 ⌝ }
-    ensures { λ r. ⌜ r ≡ words.middle-word (now (w .entry)) ⌝ }
+// A name compared with one reserved word.
+fn only(w: &[u8], bytes: &[u8], token: Word) -> Lookup
+    ensures { λ r. ⌜ r ≡ lookup.compare (words.entry (now (bytes .entry)) token ∷ []) (now (w .entry)) 0 ⌝ }
 {
-    if equal(w, b"is") {
-        return is(kind::IS, 0);
+    if equal(w, bytes) {
+        return looked(Found::Reserved(token), 1);
     }
-    if equal(w, b"not") {
-        return is(kind::NOT, 0);
-    }
-    if equal(w, b"or") {
-        return is(kind::OR, 0);
-    }
-    if equal(w, b"proc") {
-        return is(kind::PROC, 0);
-    }
-    if equal(w, b"return") {
-        return is(kind::RETURN, 0);
-    }
-    if equal(w, b"skip") {
-        return is(kind::SKIP, 0);
-    }
-    if equal(w, b"stop") {
-        return is(kind::STOP, 0);
-    }
-    late_word(w)
+    looked(Found::Free, 1)
 }
 
-// `and` to `if`.
+// A name compared with one reserved word and, if it isn't that, with another.
+fn pair(w: &[u8], bytes: &[u8], token: Word, bytes2: &[u8], token2: Word) -> Lookup
+    ensures { λ r. ⌜ r ≡ lookup.compare (words.entry (now (bytes .entry)) token ∷ words.entry (now (bytes2 .entry)) token2 ∷ []) (now (w .entry)) 0 ⌝ }
+{
+    if equal(w, bytes) {
+        return looked(Found::Reserved(token), 1);
+    }
+    if equal(w, bytes2) {
+        return looked(Found::Reserved(token2), 2);
+    }
+    looked(Found::Free, 2)
+}
+
+// The reserved words of two letters, by the first; then those of three to six.
+fn of_two(w: &[u8]) -> Lookup
+    ensures { λ r. ⌜ r ≡ lookup.compare (lookup.candidates 2 (getD (now (w .entry)) 0 0) words.reserved) (now (w .entry)) 0 ⌝ }
+{
+    let first = byte(w, 0, 0);
+    match first {
+        b'd' => only(w, b"do", is(kind::DO, 0)),
+        b'i' => pair(w, b"if", is(kind::IF, 0), b"is", is(kind::IS, 0)),
+        b'o' => only(w, b"or", is(kind::OR, 0)),
+        _ => looked(Found::Free, 0),
+    }
+}
+
+fn of_three(w: &[u8]) -> Lookup
+    ensures { λ r. ⌜ r ≡ lookup.compare (lookup.candidates 3 (getD (now (w .entry)) 0 0) words.reserved) (now (w .entry)) 0 ⌝ }
+{
+    let first = byte(w, 0, 0);
+    match first {
+        b'a' => only(w, b"and", is(kind::AND, 0)),
+        b'n' => only(w, b"not", is(kind::NOT, 0)),
+        b'v' => pair(w, b"val", is(kind::VAL, 0), b"var", is(kind::VAR, 0)),
+        b'x' => only(w, b"xor", is(kind::XOR, 0)),
+        _ => looked(Found::Free, 0),
+    }
+}
+
+fn of_four(w: &[u8]) -> Lookup
+    ensures { λ r. ⌜ r ≡ lookup.compare (lookup.candidates 4 (getD (now (w .entry)) 0 0) words.reserved) (now (w .entry)) 0 ⌝ }
+{
+    let first = byte(w, 0, 0);
+    match first {
+        b'e' => only(w, b"else", is(kind::ELSE, 0)),
+        b'f' => only(w, b"func", is(kind::FUNC, 0)),
+        b'p' => only(w, b"proc", is(kind::PROC, 0)),
+        b's' => pair(w, b"skip", is(kind::SKIP, 0), b"stop", is(kind::STOP, 0)),
+        b't' => pair(
+            w,
+            b"then",
+            is(kind::THEN, 0),
+            b"true",
+            is(kind::NUMBER, TRUE),
+        ),
+        _ => looked(Found::Free, 0),
+    }
+}
+
+fn of_five(w: &[u8]) -> Lookup
+    ensures { λ r. ⌜ r ≡ lookup.compare (lookup.candidates 5 (getD (now (w .entry)) 0 0) words.reserved) (now (w .entry)) 0 ⌝ }
+{
+    let first = byte(w, 0, 0);
+    match first {
+        b'a' => only(w, b"array", is(kind::ARRAY, 0)),
+        b'f' => only(w, b"false", is(kind::NUMBER, 0)),
+        b'v' => only(w, b"valof", is(kind::VALOF, 0)),
+        b'w' => only(w, b"while", is(kind::WHILE, 0)),
+        _ => looked(Found::Free, 0),
+    }
+}
+
+fn of_six(w: &[u8]) -> Lookup
+    ensures { λ r. ⌜ r ≡ lookup.compare (lookup.candidates 6 (getD (now (w .entry)) 0 0) words.reserved) (now (w .entry)) 0 ⌝ }
+{
+    let first = byte(w, 0, 0);
+    match first {
+        b'r' => only(w, b"return", is(kind::RETURN, 0)),
+        _ => looked(Found::Free, 0),
+    }
+}
+
+// The reserved words of a name's length and first letter, up to the one that it is.
+pub fn look_up(w: &[u8]) -> Lookup
+    ensures { λ r. ⌜ r ≡ lookup.look-up (now (w .entry)) ⌝ }
+{
+    match w.len() {
+        2 => of_two(w),
+        3 => of_three(w),
+        4 => of_four(w),
+        5 => of_five(w),
+        6 => of_six(w),
+        _ => looked(Found::Free, 0),
+    }
+}
+
+// The token of a name's bytes.
 pub fn word_of(w: &[u8]) -> Word
     requires { ⌜ length (now w) ≤ 32 ⌝ }
     ensures { λ r. ⌜ r ≡ words.word (now (w .entry)) ⌝ }
 {
-    if equal(w, b"and") {
-        return is(kind::AND, 0);
+    let found = look_up(w).found;
+    match found {
+        Found::Reserved(token) => token,
+        Found::Free => is(kind::NAME, w.len() as u32),
     }
-    if equal(w, b"array") {
-        return is(kind::ARRAY, 0);
-    }
-    if equal(w, b"do") {
-        return is(kind::DO, 0);
-    }
-    if equal(w, b"else") {
-        return is(kind::ELSE, 0);
-    }
-    if equal(w, b"false") {
-        return is(kind::NUMBER, 0);
-    }
-    if equal(w, b"func") {
-        return is(kind::FUNC, 0);
-    }
-    if equal(w, b"if") {
-        return is(kind::IF, 0);
-    }
-    middle_word(w)
 }

@@ -14,7 +14,8 @@ use Rattle.arm_word.specs.Choice.{pick}
 use Rattle.arm_word.specs.ChoiceLaws.{by-test, both, either}
 use Rattle.x_spelling.specs.Kinds as kinds
 use Rattle.x_spelling.specs.Characters.{one-of, character, within, letter, digit, digit-value, name-character, literal-character, span, numeral, separator}
-use Rattle.x_spelling.specs.Words.{word, middle-word, late-word}
+use Rattle.x_spelling.specs.Words.{reserved, word}
+use Rattle.x_spelling.specs.ReservedWordLaws.{every, word-has}
 use Rattle.x_tokens.specs.Lexemes.{at, spelled, named, number, escape-value, closed, hexadecimal-escape, escape, byte-literal, comment, single, double, symbol, lexeme}
 use Rattle.x_spelling.specs.Runs.{span-length}
 use Rattle.x_tokens.specs.Refusals as refusal
@@ -58,13 +59,9 @@ inside s i k e p =
 
 -- words
 
-matched-pick : (n : ℕ) (b : Bool) (x y : Word) → matched n (x .kind) (x .value) ≡ true → matched n (y .kind) (y .value) ≡ true → matched n (pick b x y .kind) (pick b x y .value) ≡ true
-matched-pick n true x y p q = p
-matched-pick n false x y p q = q
-
 word-matched : (w : List ℕ) → matched (length w) (word w .kind) (word w .value) ≡ true
-unfolding word middle-word late-word
-word-matched w = let e = eq-eqb (length w) (length w) refl in search (matched-pick, e) depth 30
+unfolding reserved every
+word-matched w = word-has (λ (t : Word). matched (length w) (t .kind) (t .value)) w reserved refl (eq-eqb (length w) (length w) refl)
 
 -- symbols
 

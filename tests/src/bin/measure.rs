@@ -52,7 +52,7 @@ fn translate(source: &[u8]) -> (Translation, Vec<u8>) {
 }
 
 /// A source of exactly so many tokens. `names`: as many declarations as fit half of it, each used at its end;
-/// `list`: assignments in braces; `random`: a generated program, comments before it to make up the number.
+/// `words`: choices, ten of eleven tokens reserved words; `list`: assignments in braces; `random`: a generated program, comments before it to make up the number.
 fn source(tokens: usize, kind: &str) -> String {
     let counted = |text: &[u8]| reference::tokens::tokens(text).expect("tokens").len();
     let mut text = match kind {
@@ -63,6 +63,12 @@ fn source(tokens: usize, kind: &str) -> String {
             let uses: Vec<String> =
                 (0..count).map(|n| format!("name{n}:=name{}+{n}", count - 1 - n)).collect();
             format!("{declared}{{{}}}", uses.join(";")).into_bytes()
+        }
+        "words" => {
+            // 2 braces, 11 a choice with its `;`, one `;` fewer
+            let count = (tokens - 1) / 11;
+            let choice = vec!["if not true then stop else while false do skip"; count].join(";");
+            format!("{{{choice}}}").into_bytes()
         }
         "list" => {
             // 9 tokens of declarations, 2 braces, 15 an assignment with its `;`, one `;` fewer
@@ -79,7 +85,7 @@ fn source(tokens: usize, kind: &str) -> String {
             }
             made
         }
-        _ => panic!("names, list or random"),
+        _ => panic!("names, words, list or random"),
     };
     let missing = tokens - counted(&text);
     text.splice(0..0, "||".repeat(missing).into_bytes());

@@ -21,6 +21,7 @@ mod runs;
 mod speed;
 mod stack;
 mod unused;
+mod words;
 
 fn repository() -> PathBuf {
     Path::new(env!("CARGO_MANIFEST_DIR")).parent().expect("the repository").to_path_buf()
