@@ -41,6 +41,7 @@ fn prefixes(w: &[u8]) {
     }
 }
 
+// A word, and behind it one byte again and again, up to the longest name.
 fn copied(w: &[u8], fill: u8) -> [u8; 33] {
     let mut name = [fill; 33];
     let mut i = 0;
@@ -53,7 +54,7 @@ fn copied(w: &[u8], fill: u8) -> [u8; 33] {
     name
 }
 
-// A name's first n bytes, then their number of comparisons.
+// The first n bytes of a name.
 fn start(name: &[u8; 33], n: usize) {
     let whole = &name[..];
     if n <= whole.len() {
@@ -61,6 +62,7 @@ fn start(name: &[u8; 33], n: usize) {
     }
 }
 
+// The number of comparisons of a name's first n bytes.
 fn count(name: &[u8; 33], n: usize) {
     let whole = &name[..];
     if n <= whole.len() {
