@@ -15,17 +15,9 @@ use Rattle.arm_word.specs.ChoiceLaws.{by-test, both}
 use Rattle.x_spelling.specs.Kinds.{name}
 use Rattle.x_spelling.specs.Words.{same, is, Entry, reserved, first-match, token-of}
 use Rattle.x_spelling.specs.WordLookup.{candidate, keep, candidates, candidates-of, looked, compare, look-up}
-use Rattle.x_spelling.specs.Runs.{same-length}
+use Rattle.x_spelling.specs.Runs.{same-length, same-first}
 use Rattle.x_spelling.specs.declared.Word.{Word}
 use Rattle.x_spelling.specs.declared.Found.the-variants.{Reserved}
-
--- what is the same has the same first byte
-pub same-first : (a b : List ℕ) → ¬ (getD a 0 0 ≡ getD b 0 0) → same a b ≡ false
-unfolding same
-same-first [] [] h = absurd (h refl)
-same-first [] (y ∷ b) h = refl
-same-first (x ∷ a) [] h = refl
-same-first (x ∷ a) (y ∷ b) h = by-test (λ t. pick t (same a b) false ≡ false) (eqb x y) (λ e. absurd (h (eqb-true x y e))) (λ e. refl)
 
 -- a name is the same as none but its candidates
 missed : (w : List ℕ) (e : Entry) → candidate (length w) (getD w 0 0) e ≡ false → same w (e .bytes) ≡ false
@@ -53,34 +45,35 @@ compared-among [] w n = omega arith
 compared-among (e ∷ es) w n = let h = compared-among es w (suc n) in
     by-test (λ t. (pick t (looked (Reserved (e .token)) (suc n)) (compare es w (suc n))) .compared ≤ n + suc (length es)) (same w (e .bytes)) (λ _. omega arith) (λ _. omega arith)
 
--- each of a list of words has at most two candidates in the table
-few : List Entry → Bool
-few [] = true
-few (e ∷ es) = pick (leb (length (candidates (length (e .bytes)) (getD (e .bytes) 0 0) reserved)) 2) (few es) false
+-- a test that every word of a list passes
+unfoldable pub every : (Entry → Bool) → List Entry → Bool
+every test [] = true
+every test (e ∷ es) = pick (test e) (every test es) false
 
-few-among : (n b : ℕ) (es : List Entry) → few es ≡ true → (candidates n b es ≡ []) ⊎ (length (candidates n b reserved) ≤ 2)
-unfolding candidates few
+-- a word that has two candidates at most
+few : Entry → Bool
+few e = leb (length (candidates-of (e .bytes))) 2
+
+few-among : (n b : ℕ) (es : List Entry) → every few es ≡ true → (candidates n b es ≡ []) ⊎ (length (candidates n b reserved) ≤ 2)
+unfolding candidates every few
 few-among n b [] f = inl refl
-few-among n b (e ∷ es) f = let (p, q) = both _ (few es) f in
+few-among n b (e ∷ es) f = let (p, q) = both (few e) (every few es) f in
     by-test (λ t. (keep t e (candidates n b es) ≡ []) ⊎ (length (candidates n b reserved) ≤ 2)) (candidate n b e)
     (λ t. let (m, a) = both _ _ t in inr (rw (eqb-true n (length (e .bytes)) m, eqb-true b (getD (e .bytes) 0 0) a) (leb-true _ 2 p)))
     (λ _. few-among n b es q)
 
 -- "two at most"
 pub two-at-most : (w : List ℕ) → look-up w .compared ≤ 2
-unfolding candidates reserved compare few
+unfolding candidates reserved compare every few
 two-at-most w = let h = compared-among (candidates-of w) w 0 in
     ⊎-elim (λ e. rw e (omega arith)) (λ l. omega arith) (few-among (length w) (getD w 0 0) reserved refl)
 
--- a test that every reserved word's token passes, and a name's, is passed by the token of any name
-unfoldable pub every : (Word → Bool) → List Entry → Bool
-every test [] = true
-every test (e ∷ es) = pick (test (e .token)) (every test es) false
-
-pub word-has : (test : Word → Bool) (w : List ℕ) (es : List Entry) → every test es ≡ true → test (is name (length w)) ≡ true → test (token-of w (first-match es w)) ≡ true
+-- a test that every reserved word's token passes, and a name's, is passed by what a name's bytes stand for
+pub word-has : (test : Word → Bool) (w : List ℕ) (es : List Entry) → every (λ (e : Entry). test (e .token)) es ≡ true → test (is name (length w)) ≡ true
+    → test (token-of w (first-match es w)) ≡ true
 unfolding every first-match
 word-has test w [] t n = n
-word-has test w (e ∷ es) t n = let (p, q) = both (test (e .token)) (every test es) t in
+word-has test w (e ∷ es) t n = let (p, q) = both (test (e .token)) _ t in
     by-test (λ b. test (token-of w (pick b (Reserved (e .token)) (first-match es w))) ≡ true) (same w (e .bytes)) (λ _. p) (λ _. word-has test w es q n)
 
 -- the match is counted, and a name of no candidate is compared with none

@@ -98,6 +98,14 @@ same-length [] (y ∷ b) h = refl
 same-length (x ∷ a) [] h = refl
 same-length (x ∷ a) (y ∷ b) h = rw (same-length a b (λ e. h (ap suc e))) (pick-false (eqb x y))
 
+-- what is the same has the same first byte
+pub same-first : (a b : List ℕ) → ¬ (getD a 0 0 ≡ getD b 0 0) → same a b ≡ false
+unfolding same
+same-first [] [] h = absurd (h refl)
+same-first [] (y ∷ b) h = refl
+same-first (x ∷ a) [] h = refl
+same-first (x ∷ a) (y ∷ b) h = by-test (λ t. pick t (same a b) false ≡ false) (eqb x y) (λ e. absurd (h (eqb-true x y e))) (λ e. refl)
+
 -- what is the same is equal, and the other way round
 pub same-equal : (a b : List ℕ) → same a b ≡ true → a ≡ b
 unfolding same

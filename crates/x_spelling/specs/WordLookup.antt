@@ -25,7 +25,7 @@ unfoldable pub candidates : ℕ → ℕ → List Entry → List Entry
 candidates n b [] = []
 candidates n b (e ∷ es) = keep (candidate n b e) e (candidates n b es)
 
--- "the reserved words of its length and first letter, in document 01's order"; nothing has the first letter 0
+-- "the reserved words of its length and first letter, in document 01's order"; the empty name has first letter 0, as no word has
 abbrev pub candidates-of : List ℕ → List Entry
 candidates-of w = candidates (length w) (getD w 0 0) reserved
 

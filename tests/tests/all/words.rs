@@ -1,25 +1,38 @@
 //! The lookup of reserved words: what `program_word_cases` must write, against a second lookup, and the same names in sources.
 
 use crate::{print, repository};
+use reference::tokens::WORDS;
 use tests::{proved, second, CODE_BYTES, TABLE_WORDS};
 
-/// "Reserved: and array do .." in document 01's order, with the kinds of `x_spelling`'s `Kinds`; `true` and `false` are numbers.
+/// The kinds and values of the reserved words' tokens, by `x_spelling`'s `Kinds`; `true` and `false` are numbers.
 #[rustfmt::skip]
-const WORDS: [(&str, u32, u32); 21] = [
-    ("and", 34, 0), ("array", 14, 0), ("do", 22, 0), ("else", 20, 0), ("false", 1, 0), ("func", 25, 0), ("if", 18, 0),
-    ("is", 28, 0), ("not", 23, 0), ("or", 35, 0), ("proc", 24, 0), ("return", 27, 0), ("skip", 16, 0), ("stop", 17, 0),
-    ("then", 19, 0), ("true", 1, u32::MAX), ("val", 15, 0), ("valof", 26, 0), ("var", 13, 0), ("while", 21, 0), ("xor", 36, 0),
+const TOKENS: [(u32, u32); 21] = [
+    (34, 0), (14, 0), (22, 0), (20, 0), (1, 0), (25, 0), (18, 0), (28, 0), (23, 0), (35, 0), (24, 0),
+    (27, 0), (16, 0), (17, 0), (19, 0), (1, u32::MAX), (15, 0), (26, 0), (13, 0), (21, 0), (36, 0),
 ];
 
-/// A word's candidates, and the count of comparisons up to a match.
-type Lookup = fn(&str) -> (usize, Option<(u32, u32)>);
+/// How many reserved words a name is compared with, and the token of the one that it is.
+type Looked = (usize, Option<(u32, u32)>);
 
-/// "compare a name in full only with the reserved words of its length and first letter, in document 01's order up to the match"
-fn lookup(name: &str) -> (usize, Option<(u32, u32)>) {
-    let alike = |word: &str| word.len() == name.len() && word.chars().next() == name.chars().next();
-    let candidates: Vec<_> = WORDS.iter().filter(|(word, ..)| alike(word)).collect();
-    match candidates.iter().position(|(word, ..)| *word == name) {
-        Some(i) => (i + 1, Some((candidates[i].1, candidates[i].2))),
+/// The reserved words with a property, in document 01's order, each with its token.
+fn reserved(has: impl Fn(&str) -> bool) -> Vec<(&'static str, (u32, u32))> {
+    WORDS.iter().map(|(word, _)| *word).zip(TOKENS).filter(|(word, _)| has(word)).collect()
+}
+
+fn same_letter(word: &str, name: &str) -> bool {
+    word.chars().next() == name.chars().next()
+}
+
+/// "the reserved words of its length and first letter"
+fn candidates(name: &str) -> Vec<(&'static str, (u32, u32))> {
+    reserved(|word| word.len() == name.len() && same_letter(word, name))
+}
+
+/// "compare a name in full only with" these, "in document 01's order up to the match"
+fn lookup(name: &str) -> Looked {
+    let candidates = candidates(name);
+    match candidates.iter().position(|(word, _)| *word == name) {
+        Some(i) => (i + 1, Some(candidates[i].1)),
         None => (candidates.len(), None),
     }
 }
@@ -55,7 +68,7 @@ const OTHERS: [&str; 12] = [
 ];
 
 /// What the program writes, by a lookup.
-fn rendering(lookup: Lookup) -> String {
+fn rendering(lookup: fn(&str) -> Looked) -> String {
     let shown = |name: &str| match lookup(name) {
         (n, Some((kind, value))) => format!("{name} {n} reserved {kind}:{value}\n"),
         (n, None) => format!("{name} {n} name\n"),
@@ -122,25 +135,24 @@ fn names_like_reserved_words() {
 /// The comparison itself: these in the lookup's place are noticed.
 #[test]
 fn wrong_lookups_are_noticed() {
-    fn without_the_match(name: &str) -> (usize, Option<(u32, u32)>) {
+    fn without_the_match(name: &str) -> Looked {
         let (n, found) = lookup(name);
         (n - usize::from(found.is_some()), found)
     }
-    fn by_letter_alone(name: &str) -> (usize, Option<(u32, u32)>) {
-        (WORDS.iter().filter(|(word, ..)| word.chars().next() == name.chars().next()).count(), lookup(name).1)
+    fn by_letter_alone(name: &str) -> Looked {
+        (reserved(|word| same_letter(word, name)).len(), lookup(name).1)
     }
-    fn past_the_match(name: &str) -> (usize, Option<(u32, u32)>) {
-        let alike = |word: &str| word.len() == name.len() && word.chars().next() == name.chars().next();
-        (WORDS.iter().filter(|(word, ..)| alike(word)).count(), lookup(name).1)
+    fn past_the_match(name: &str) -> Looked {
+        (candidates(name).len(), lookup(name).1)
     }
-    fn one_of_a_pair(name: &str) -> (usize, Option<(u32, u32)>) {
+    fn one_of_a_pair(name: &str) -> Looked {
         if name == "true" {
             (1, None)
         } else {
             lookup(name)
         }
     }
-    for wrong in [without_the_match, by_letter_alone, past_the_match, one_of_a_pair] as [Lookup; 4] {
+    for wrong in [without_the_match, by_letter_alone, past_the_match, one_of_a_pair] {
         assert!(stored() != rendering(wrong));
     }
 }

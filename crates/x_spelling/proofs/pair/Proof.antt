@@ -1,6 +1,5 @@
 -- `x_spelling::pair` meets its contract. Each way through the code makes the same choices as the definition.
 -- Assumes nothing.
-use Rattle.arm_word.specs.Tests.{tests}
 use Rattle.x_spelling.specs.WordLookup as spec
 use borrow.Author.Needs.{needs}
 use Rattle.x_spelling.proofs.pair.Statement.{statement}
@@ -12,8 +11,10 @@ pair-spec =
     tie.close
     (tie.spec
     (search needs) (search needs)
-    (λ c. search tests)
+    (λ c. rw (← c .before .before .equal .ensures, c .before .if1 .taken) (c .looked .ensures))
     (search needs) (search needs)
-    (λ c. search tests)
+    (λ c. let here = c .before .before .before in
+    rw (← here .before .equal .ensures, here .if1 .left, ← c .before .before .equal2 .ensures, c .before .if2 .taken) (c .looked2 .ensures))
     (search needs)
-    (λ c. search tests))
+    (λ c. let here = c .before .before .before in
+    rw (← here .before .equal .ensures, here .if1 .left, ← c .before .before .equal2 .ensures, c .before .if2 .left) (c .looked3 .ensures)))
