@@ -18,7 +18,7 @@ extern "C" {
 #endif
 
 /* The version of this interface: the major number changes where a caller must change too. */
-#define GUTILAMBOY_VERSION_MAJOR 1
+#define GUTILAMBOY_VERSION_MAJOR 2
 #define GUTILAMBOY_VERSION_MINOR 0
 
 /* ---- limits ---- */
@@ -62,7 +62,8 @@ extern "C" {
 #define GUTILAMBOY_SHORT_TABLE 13    /* table shorter than GUTILAMBOY_TABLE_WORDS of the tokens; place 0 */
 #define GUTILAMBOY_SHORT_CODE 14     /* code buffer shorter than GUTILAMBOY_CODE_BYTES of the tokens; place 0 */
 
-/* What a translation answers. Of a refused source all counts are 0. */
+/* What a translation answers. Of a refused source all counts are 0: who goes on with the rule before keeps that rule's
+ * answer too, and lends each call a structure of its own. */
 struct gutilamboy_translation {
     uint32_t status;
     uint32_t place;  /* of a refusal: a byte of the source, or the source's length */
@@ -74,7 +75,9 @@ struct gutilamboy_translation {
 };
 
 /* Translates a source. Accepted: the rows of the syntax table and the image stand at the start of the buffers, zeros
- * behind them. Refused: both buffers are zeroed wholly.
+ * behind them. Refused, by whatever number: every word and byte of both buffers is what it was, so the rule that was
+ * translated into them before is still there. Only the status tells which, nothing in the buffers does. An accepted
+ * call overwrites that rule: let its run end before.
  * A variable or an array is a row of kind 1 or 2, in the order of declaration, with its first memory word and its
  * number of words: memory words 0 to data - 1 are the declared ones. A truth value is -1 (0xFFFFFFFF) or 0.
  * Stack: at most 64 KB, whatever the source; measured on x86-64 (docs/BENCHMARKS.md). */

@@ -1,4 +1,5 @@
-/* Translates a rule, runs its image on lent memory, and prints how it ended and its words.
+/* Translates a rule, runs its image on lent memory, and prints how it ended and its words; then gets an update that is
+ * refused, and goes on with the rule.
  *
  *   rt staticlib gutilamboy
  *   cc -std=c99 -Wall -I include examples/c/pallet.c target/staticlib/libgutilamboy.a -o pallet && ./pallet
@@ -9,18 +10,38 @@
 #include "gutilamboy.h"
 
 /* The total of the boxes on a pallet, none of them read if there are none. */
-static const char source[] =
+static const char first[] =
     "var count; var total; array weight[4];\n"
     "{ total := 0;\n"
     "  while 0 < count do\n"
     "    { count := count - 1;\n"
     "      total := total + weight[count] } }\n";
 
+/* A bad update: it declares no `total`. */
+static const char mistaken[] = "var count; array weight[4]; total := count";
+
 enum { TOKENS = 64, MEMORY_WORDS = 64 };
 
 static uint32_t table[GUTILAMBOY_TABLE_WORDS(TOKENS)];
 static uint8_t code[GUTILAMBOY_CODE_BYTES(TOKENS)];
 static uint32_t memory[MEMORY_WORDS];
+
+/* An update of the rule, into the buffers that hold it. A refusal leaves them as they are; the rule's own answer has to
+ * be kept too, since a refusal's counts are all 0: so the new answer goes into a structure of its own first. */
+static int update(struct gutilamboy_translation *rule, const char *what, const char *source)
+{
+    struct gutilamboy_translation answer;
+
+    gutilamboy_translate((const uint8_t *)source, strlen(source), table, sizeof table / sizeof *table, code, sizeof code,
+                         &answer);
+    printf("%s: status %u place %u tokens %u rows %u data %u depth %u\n", what, (unsigned)answer.status,
+           (unsigned)answer.place, (unsigned)answer.tokens, (unsigned)answer.rows, (unsigned)answer.data,
+           (unsigned)answer.depth);
+    if (answer.status != GUTILAMBOY_ACCEPTED)
+        return 0;
+    *rule = answer;
+    return 1;
+}
 
 /* How a run ended. */
 static const char *end(const struct gutilamboy_ran *ran)
@@ -41,7 +62,7 @@ static const char *end(const struct gutilamboy_ran *ran)
     }
 }
 
-static int run(const struct gutilamboy_translation *t, const char *what, const uint32_t *words, size_t length)
+static int run(const struct gutilamboy_translation *rule, const char *what, const uint32_t *words, size_t length)
 {
     struct gutilamboy_state state;
     struct gutilamboy_stepped stepped;
@@ -51,18 +72,18 @@ static int run(const struct gutilamboy_translation *t, const char *what, const u
 
     /* the declared words; those behind them keep what the rule before left, which changes no answer */
     memcpy(memory, words, length * sizeof *words);
-    status = gutilamboy_start(code, t->code, memory, MEMORY_WORDS, t->data, t->depth, &state);
+    status = gutilamboy_start(code, rule->code, memory, MEMORY_WORDS, rule->data, rule->depth, &state);
     if (status != GUTILAMBOY_DONE) {
         printf("%s: start refused, %u%s\n", what, (unsigned)status,
                status == GUTILAMBOY_SHORT_MEMORY ? ": more words are needed" : "");
         return 1;
     }
     /* one instruction, then the rest, but no more than 10,000 */
-    gutilamboy_step(code, t->code, memory, MEMORY_WORDS, &state, &stepped);
-    gutilamboy_run(code, t->code, memory, MEMORY_WORDS, 10000, &state, &ran);
+    gutilamboy_step(code, rule->code, memory, MEMORY_WORDS, &state, &stepped);
+    gutilamboy_run(code, rule->code, memory, MEMORY_WORDS, 10000, &state, &ran);
     printf("%s: step %u, then %s at pc %u after %lu more, words", what, (unsigned)stepped.status, end(&ran),
            (unsigned)state.pc, (unsigned long)ran.count);
-    for (i = 0; i < t->data; i++)
+    for (i = 0; i < rule->data; i++)
         printf(" %u", (unsigned)memory[i]);
     printf("\n");
     return 0;
@@ -73,13 +94,13 @@ int main(void)
     static const uint32_t empty[] = {0, 7, 10, 20, 30, 40};
     static const uint32_t three[] = {3, 7, 10, 20, 30, 40};
     static const uint32_t five[] = {5, 7, 10, 20, 30, 40};
-    struct gutilamboy_translation t;
+    struct gutilamboy_translation rule;
 
-    gutilamboy_translate((const uint8_t *)source, strlen(source), table, sizeof table / sizeof *table, code, sizeof code,
-                         &t);
-    printf("status %u place %u tokens %u rows %u data %u depth %u\n", (unsigned)t.status, (unsigned)t.place,
-           (unsigned)t.tokens, (unsigned)t.rows, (unsigned)t.data, (unsigned)t.depth);
-    if (t.status != GUTILAMBOY_ACCEPTED)
+    if (!update(&rule, "first rule", first))
         return 1;
-    return run(&t, "empty pallet", empty, 6) + run(&t, "three boxes", three, 6) + run(&t, "five boxes", five, 6);
+    if (run(&rule, "empty pallet", empty, 6) + run(&rule, "three boxes", three, 6) + run(&rule, "five boxes", five, 6))
+        return 1;
+    if (update(&rule, "bad update", mistaken))
+        return 1;
+    return run(&rule, "three boxes again", three, 6);
 }

@@ -72,6 +72,6 @@ translationWords t = t .status ∷ t .place ∷ t .tokens ∷ t .rows ∷ t .«d
 abbrev pub ofTranslation : Translated → TranslateLeft
 ofTranslation t = translateLeft (translationWords (t .answer)) (t .table) (t .code)
 
--- a source, a table of so many words and a code buffer of so many bytes
-abbrev pub translateCall : List ℕ → ℕ → ℕ → TranslateLeft
+-- a source, the words that the table holds before the call and the bytes that the code buffer does
+abbrev pub translateCall : List ℕ → List ℕ → List ℕ → TranslateLeft
 translateCall source table code = ofTranslation (translation source table code)

@@ -1,7 +1,6 @@
 // The C boundary: translate, start, step and run over lent slices and lent arrays of words.
 // A slice is a pointer and a length; an array is a pointer to as many words as its type says.
 ghost use mathlib.Core.Path.{_≡_};
-ghost use lib.ListN.{length};
 ghost use Rattle.gutilamboy.specs.Calls as calls;
 use gutilamboy_numbers::state_of;
 use gutilamboy_numbers::state_words;
@@ -15,7 +14,7 @@ pub extern "C" fn gutilamboy_translate(
     out: &mut [u32; 7],
 )
     ensures { λ _. ⌜ calls.translateLeft (now (out .exit)) (now (table .exit)) (now (code .exit))
-        ≡ calls.translateCall (now (source .entry)) (length (now (table .entry))) (length (now (code .entry))) ⌝ }
+        ≡ calls.translateCall (now (source .entry)) (now (table .entry)) (now (code .entry)) ⌝ }
 {
     let t = translate_source::translate(source, table, code);
     *out = [t.status, t.place, t.tokens, t.rows, t.data, t.depth, t.code];

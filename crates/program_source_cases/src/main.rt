@@ -26,6 +26,56 @@ fn case(source: &[u8]) {
     text(b"\n");
 }
 
+fn word(words: &[u32], at: usize) {
+    if at < words.len() {
+        number(words[at]);
+    }
+}
+
+fn small_number(n: u8) {
+    number(n as u32);
+}
+
+fn byte(bytes: &[u8], at: usize) {
+    if at < bytes.len() {
+        small_number(bytes[at]);
+    }
+}
+
+fn first_row(table: &[u32]) {
+    word(table, 0);
+    word(table, 1);
+    word(table, 2);
+    word(table, 3);
+}
+
+fn first_halfwords(code: &[u8]) {
+    byte(code, 0);
+    byte(code, 1);
+    byte(code, 2);
+    byte(code, 3);
+}
+
+// An update of a rule, into the rule's buffers: status, place, rows and image bytes, then the first row and the first two halfwords there.
+fn update(rule: &[u8], source: &[u8]) {
+    let mut table = [7u32; 4096];
+    let mut code = [7u8; 49408];
+    translate_source::translate(rule, &mut table, &mut code);
+    let t = translate_source::translate(source, &mut table, &mut code);
+    text(source);
+    text(b" instead of ");
+    text(rule);
+    text(b" ->");
+    number(t.status);
+    number(t.place);
+    number(t.rows);
+    number(t.code);
+    text(b", then");
+    first_row(&table);
+    first_halfwords(&code);
+    text(b"\n");
+}
+
 fn refusals_and_limits() {
     case(b"var x; x := 2 + 3");
     case(b"");
@@ -70,4 +120,7 @@ fn others() {
 fn main() {
     refusals_and_limits();
     others();
+    update(b"var x; x := 2 + 3", b"x := 1");
+    update(b"var x; x := 2 + 3", b"var x; x := 2 +");
+    update(b"var x; x := 2 + 3", b"array a[3]; skip");
 }

@@ -39,17 +39,16 @@ line-put code out out′ at end end′ first second n l h f s e k w =
 
 -- ── the answer of a translation into arrays of the report's lengths ──
 
-module _ (source table code : List ℕ) (t : Translation) (h : left t table code ≡ translation source (length (zeros table-words)) (length (zeros code-bytes))) where
-  answered : left t table code ≡ translated table-words code-bytes (front source table-words code-bytes)
-  unfolding translation
-  answered = into-arrays source (left t table code) h
+module _ (source table code : List ℕ) (t : Translation) (h : left t table code ≡ translation source (zeros table-words) (zeros code-bytes)) where
+  came-to : left t table code ≡ translated (zeros table-words) (zeros code-bytes) (front source table-words code-bytes)
+  came-to = into-arrays source (left t table code) h
 
   -- a refused source
   pub refused-text : (t .status ≡ 0 → ⊥) → answer-lines t ≡ listing-of source
   unfolding listing-of
-  refused-text bad = go (front source table-words code-bytes) answered
+  refused-text bad = go (front source table-words code-bytes) came-to
     where
-      go : (o : Outcome) → left t table code ≡ translated table-words code-bytes o → answer-lines t ≡ listed source o
+      go : (o : Outcome) → left t table code ≡ translated (zeros table-words) (zeros code-bytes) o → answer-lines t ≡ listed source o
       go (refused n at) e = reported source table code t h
       go (accepted n p) e = absurd (bad (ap (λ (x : Translated). x .answer .status) e))
 
@@ -62,17 +61,17 @@ module _ (source table code : List ℕ) (t : Translation) (h : left t table code
 
   pub accepted-text : t .status ≡ 0 → Image
   unfolding listing-of
-  accepted-text ok = go (front source table-words code-bytes) refl answered
+  accepted-text ok = go (front source table-words code-bytes) refl came-to
     where
-      go : (o : Outcome) → front source table-words code-bytes ≡ o → left t table code ≡ translated table-words code-bytes o → Image
+      go : (o : Outcome) → front source table-words code-bytes ≡ o → left t table code ≡ translated (zeros table-words) (zeros code-bytes) o → Image
       go (refused n at) f e = absurd (omega (arith, refusal source table-words code-bytes n at f .low, ok, ap (λ (x : Translated). x .answer .status) e))
       go (accepted n p) f e =
           let k : t .code ≡ length (image p) = ap (λ (x : Translated). x .answer .code) e in
-          let c : code ≡ image p ++ zeros (code-bytes - length (image p)) = ap (λ (x : Translated). x .code) e in
-          let i : take (t .code) code ≡ image p = rw (k, c) (take-at (image p) (zeros (code-bytes - length (image p))) (length (image p)) refl) in
+          let c : code ≡ image p ++ zeros (length (zeros code-bytes) - length (image p)) = ap (λ (x : Translated). x .code) e in
+          let i : take (t .code) code ≡ image p = rw (k, c) (take-at (image p) (zeros (length (zeros code-bytes) - length (image p))) (length (image p)) refl) in
           let l = ap length i in
           record {
-            within = omega (arith, k, ap length c, length-append (image p) (zeros (code-bytes - length (image p))));
+            within = omega (arith, k, ap length c, length-append (image p) (zeros (length (zeros code-bytes) - length (image p))));
             counted = k ∙ sym l;
             small = omega (arith, l, accepted-fits source table-words code-bytes n p f .small);
             text = ap (text-from 0) i ∙ ap (listed source) (sym f);

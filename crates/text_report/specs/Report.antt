@@ -1,10 +1,11 @@
--- The report of a source, whole. Definitions; rests on the translation and the seven lines.
+-- The report of a source, whole. Definitions; rests on the translation's answer and the seven lines.
 use mathlib.Core.List.{List}
 use Prim.Native.Nat.{ℕ}
 use Rattle.x_program.specs.Layout.{table-room, code-room}
 use Rattle.text_lines.specs.Text.{summary}
 use Rattle.translate_source.specs.declared.Translation.{Translation}
-use Rattle.translate_source.specs.Translate.{translation}
+use Rattle.x_verdict.specs.Front.{front}
+use Rattle.translate_source.specs.Translate.{answered}
 
 -- Limits and refusals: "4 x tokens words" and "48 x tokens + 256 bytes" for 1,024 tokens, the most that a source may have: 13 and 14 never show
 abbrev pub table-words : ℕ
@@ -19,7 +20,7 @@ answer-lines t = summary (t .status) (t .place) (t .tokens) (t .rows) (t .«data
 
 -- "It reads a source ... and writes lines in this order"
 unfoldable pub report-of : List ℕ → List ℕ
-report-of source = answer-lines (translation source table-words code-bytes .answer)
+report-of source = answer-lines (answered (front source table-words code-bytes))
 
 -- no report has more bytes
 abbrev pub report-limit : ℕ

@@ -20,17 +20,16 @@ use Rattle.translate_rules.specs.Blocks.{push-constant, work-diadic-code, assig
 use Rattle.translate_rules.specs.ImageCode.{expression-code, process-code, image-code, image}
 use Rattle.arm_word.specs.Ascii.{ascii}
 use Rattle.text_lines.specs.Text.{digits, summary}
-use Rattle.translate_source.specs.Translate.{translation}
 use Rattle.text_report.specs.Report.{report-of}
 
 -- The report program: "For `skip;` the whole output is"
 pub skip-case : report-of (ascii "skip;") ≡ ascii "status=6\nplace=4\ntokens=0\nrows=0\ndata=0\ndepth=0\ncode=0\n"
-unfolding report-of translation front outcome scan lexeme lexemes.named double single symbol one-of digit-value name-character span same reserved first-match reads run symbols unread-place summary digits
+unfolding report-of front outcome scan lexeme lexemes.named double single symbol one-of digit-value name-character span same reserved first-match reads run symbols unread-place summary digits
 skip-case = refl
 
 -- Marked and other cases: "`var x; x := 2 + 3`: 8 tokens, D 1, N 2", five rows; its sixteen instructions have 32 bytes
 pub sum-case : report-of (ascii "var x; x := 2 + 3") ≡ ascii "status=0\nplace=0\ntokens=8\nrows=5\ndata=1\ndepth=2\ncode=32\n"
-unfolding report-of translation front outcome scan lexeme lexemes.named lexemes.number double single symbol one-of digit-value name-character span numeral same reserved first-match
+unfolding report-of front outcome scan lexeme lexemes.named lexemes.number double single symbol one-of digit-value name-character span numeral same reserved first-match
     reads run symbols entry-at named least lookup data-words row-count count count-process image image-code process-code expression-code push-constant load-constant work-diadic-code
     assign-variable bytes bytes-of encoded-bytes encodeOf put summary digits
 sum-case = refl

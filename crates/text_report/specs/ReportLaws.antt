@@ -5,17 +5,20 @@ use Prim.Native.Nat.{ℕ, _≤_}
 use native.Mathlib.Omega.{arith}
 use lib.ListN.{length, length-take, length-replicate}
 use Rattle.text_lines.specs.LineLaws.{summary-fits}
+use Rattle.x_verdict.specs.Front.{front}
 use Rattle.translate_source.specs.declared.Translation.{Translation}
-use Rattle.translate_source.specs.Translate.{Translated, left, zeros, translation}
+use Rattle.translate_source.specs.Translate.{Translated, left, zeros, answered, translated, translation}
 use Rattle.text_report.specs.Report.{table-words, code-bytes, answer-lines, report-of, report-limit}
 
-pub into-arrays : (source : List ℕ) (x : Translated) → x ≡ translation source (length (zeros table-words)) (length (zeros code-bytes)) → x ≡ translation source table-words code-bytes
+pub into-arrays : (source : List ℕ) (x : Translated) → x ≡ translation source (zeros table-words) (zeros code-bytes)
+    → x ≡ translated (zeros table-words) (zeros code-bytes) (front source table-words code-bytes)
+unfolding translation
 into-arrays source x h =
     h
-    ∙ ap (λ (n : ℕ). translation source n (length (zeros code-bytes))) (length-replicate {A = ℕ} table-words 0)
-    ∙ ap (translation source table-words) (length-replicate {A = ℕ} code-bytes 0)
+    ∙ ap (λ (n : ℕ). translated (zeros table-words) (zeros code-bytes) (front source n (length (zeros code-bytes)))) (length-replicate {A = ℕ} table-words 0)
+    ∙ ap (λ (n : ℕ). translated (zeros table-words) (zeros code-bytes) (front source table-words n)) (length-replicate {A = ℕ} code-bytes 0)
 
-pub reported : (source table code : List ℕ) (t : Translation) → left t table code ≡ translation source (length (zeros table-words)) (length (zeros code-bytes)) → answer-lines t ≡ report-of source
+pub reported : (source table code : List ℕ) (t : Translation) → left t table code ≡ translation source (zeros table-words) (zeros code-bytes) → answer-lines t ≡ report-of source
 unfolding report-of
 reported source table code t h = ap (λ (x : Translated). answer-lines (x .answer)) (into-arrays source (left t table code) h)
 
@@ -23,6 +26,6 @@ reported source table code t h = ap (λ (x : Translated). answer-lines (x .answe
 pub report-fits : (source : List ℕ) → length (report-of source) ≤ report-limit
 unfolding report-of
 report-fits source =
-    let t = translation source table-words code-bytes .answer in
+    let t = answered (front source table-words code-bytes) in
     let fits = ap length (summary-fits (t .status) (t .place) (t .tokens) (t .rows) (t .«data») (t .depth) (t .code)) in
     omega (arith, fits, length-take 128 (answer-lines t))

@@ -7,12 +7,13 @@ use lib.ListN.{length, take}
 use Rattle.x_tokens.specs.TokenList.{Entry}
 use Rattle.x_grammar.specs.Grammar as grammar
 use Rattle.x_program.specs.Tree.{Program}
+use Rattle.x_program.specs.Rows.{table-of}
 use Rattle.x_names.specs.Resolve.{resolve}
 use Rattle.x_verdict.specs.Symbols.{text-of}
 use Rattle.x_verdict.specs.IsX.{IsX, Room}
 use Rattle.x_verdict.specs.Deserved.{Deserves, FirstDeserved, Numbered}
 use Rattle.translate_rules.specs.ImageCode.{image}
-use Rattle.translate_source.specs.Translate.{Translated, translation, zeros}
+use Rattle.translate_source.specs.Translate.{Translated, translation, filled}
 use Rattle.arm_encoding.specs.Encoding.{encodeOf, decodeOf, whole}
 use Rattle.arm_encoding.specs.declared.Instr.{Instr}
 use Rattle.arm_encoding.specs.declared.Decoded.the-variants.{Known}
@@ -23,14 +24,15 @@ use Rattle.theorem_simulation.specs.Demand4.{Agree, Demand4}
 
 -- ── demand 1: everything is answered ──
 
--- a refusal: "It zeroes table and code buffer wholly and its counts are all 0"
-pub record Refused (source : List ℕ) (table code n p : ℕ) (t : Translated) : Type 0 where
+-- a refusal over buffers that hold these: "a refusal changes neither buffer" (request 2026-06), "its counts are all 0"
+pub record Refused (source table code : List ℕ) (n p : ℕ) (t : Translated) : Type 0 where
   pub status : t .answer .status ≡ n
   pub place : t .answer .place ≡ p
   -- the number is 1 to 14, the place a byte of the source or its length
   pub numbered : Numbered source n p
-  pub table-zero : t .table ≡ zeros table
-  pub code-zero : t .code ≡ zeros code
+  -- every word of the table and every byte of the code buffer is what it was
+  pub table-kept : t .table ≡ table
+  pub code-kept : t .code ≡ code
   pub no-tokens : t .answer .tokens ≡ 0
   pub no-rows : t .answer .rows ≡ 0
   pub no-data : t .answer .«data» ≡ 0
@@ -44,12 +46,12 @@ pub record Unchanged (code words : List ℕ) (m : Machine) : Type 0 where
 
 pub record Demand1 : Type 0 where
   -- "in document 01's order": what is deserved first is what is answered, and nothing else
-  pub refuses : (source : List ℕ) (table code n p : ℕ) → FirstDeserved source table code n p → Refused source table code n p (translation source table code)
-  pub refused-first : (source : List ℕ) (table code : ℕ) → 0 < translation source table code .answer .status
-      → FirstDeserved source table code (translation source table code .answer .status) (translation source table code .answer .place)
+  pub refuses : (source table code : List ℕ) (n p : ℕ) → FirstDeserved source (length table) (length code) n p → Refused source table code n p (translation source table code)
+  pub refused-first : (source table code : List ℕ) → 0 < translation source table code .answer .status
+      → FirstDeserved source (length table) (length code) (translation source table code .answer .status) (translation source table code .answer .place)
   -- "A refusal is given in no other case"
-  pub accepts : (source : List ℕ) (table code : ℕ) → ((n p : ℕ) → Deserves source table code n p → ⊥) → translation source table code .answer .status ≡ 0
-  pub accepted-spared : (source : List ℕ) (table code : ℕ) → translation source table code .answer .status ≡ 0 → (n p : ℕ) → Deserves source table code n p → ⊥
+  pub accepts : (source table code : List ℕ) → ((n p : ℕ) → Deserves source (length table) (length code) n p → ⊥) → translation source table code .answer .status ≡ 0
+  pub accepted-spared : (source table code : List ℕ) → translation source table code .answer .status ≡ 0 → (n p : ℕ) → Deserves source (length table) (length code) n p → ⊥
   pub faulted : (code words : List ℕ) (m : Machine) → 0 < stepOf code words m .after .state .status → Unchanged code words m
 
 -- ── demand 2: exactly X, exactly Arm ──
@@ -62,9 +64,9 @@ pub record XAs (source : List ℕ) (table code : ℕ) (p : Program) : Type 0 whe
   pub room : Room (length ts) table code
   pub resolved : p ≡ resolve (text-of source ts) tree
 
--- a source that the translation accepted, as this program
-pub record Translates (source : List ℕ) (table code : ℕ) (p : Program) : Type 0 where
-  pub is-X : XAs source table code p
+-- a source that the translation into buffers that hold these accepted, as this program
+pub record Translates (source table code : List ℕ) (p : Program) : Type 0 where
+  pub is-X : XAs source (length table) (length code) p
   pub status : translation source table code .answer .status ≡ 0
   pub place : translation source table code .answer .place ≡ 0
   -- "The source's own numbers are those that start takes, D and N": the answer has them
@@ -72,11 +74,14 @@ pub record Translates (source : List ℕ) (table code : ℕ) (p : Program) : Typ
   pub depth : translation source table code .answer .depth ≡ N p
   -- "the image as code" is the first bytes of the code buffer, as many as the answer says
   pub image-bytes : take (translation source table code .answer .code) (translation source table code .code) ≡ image p
+  -- "An accepted call zeroes what lies past the table and past the image"
+  pub table-filled : translation source table code .table ≡ filled (length table) (table-of p)
+  pub code-filled : translation source table code .code ≡ filled (length code) (image p)
 
 pub record Demand2 : Type 0 where
   -- "With room, a source is accepted exactly if it is X by grammar, names and limits"; "Status 0, place 0 is accepted"
-  pub accepted-is-X : (source : List ℕ) (table code : ℕ) → translation source table code .answer .status ≡ 0 → (p : Program) × Translates source table code p
-  pub X-is-accepted : (source : List ℕ) (table code : ℕ) (p : Program) → XAs source table code p → Translates source table code p
+  pub accepted-is-X : (source table code : List ℕ) → translation source table code .answer .status ≡ 0 → (p : Program) × Translates source table code p
+  pub X-is-accepted : (source table code : List ℕ) (p : Program) → XAs source (length table) (length code) p → Translates source table code p
   -- "Each instruction is encoded and read back as Arm's manual says": the table is that of arm_encoding; both ways round it is the same
   pub decoded : (i : Instr) → encodeOf i .status ≡ 0 → decodeOf (encodeOf i .first) (encodeOf i .second) ≡ Known i
   pub encoded : (h s : ℕ) (i : Instr) → s < 65536 → decodeOf h s ≡ Known i → encodeOf i ≡ whole h s
@@ -87,7 +92,7 @@ pub record Demands : Type 0 where
   pub one : Demand1
   pub two : Demand2
   -- any accepted source, any starting words, needed words <= memory <= 16,384 words, any list of calls
-  pub three : (source : List ℕ) (table code : ℕ) (p : Program) (memory : List ℕ) → Translates source table code p → Lent p memory → Demand3 p memory
+  pub three : (source table code : List ℕ) (p : Program) (memory : List ℕ) → Translates source table code p → Lent p memory → Demand3 p memory
   -- "For the image of one accepted source, started as in demand 3 over two memories that agree in the D declared words"
-  pub four : (source : List ℕ) (table code : ℕ) (p : Program) (memory other : List ℕ) → Translates source table code p → Lent p memory → Lent p other → Agree p memory other
+  pub four : (source table code : List ℕ) (p : Program) (memory other : List ℕ) → Translates source table code p → Lent p memory → Lent p other → Agree p memory other
       → Demand4 p memory other

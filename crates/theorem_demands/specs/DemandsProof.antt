@@ -6,6 +6,7 @@ use native.Mathlib.Omega.{arith}
 use lib.ListN.{length, take}
 use lib.Seq.{take-at}
 use Rattle.x_program.specs.Tree.{Program}
+use Rattle.x_program.specs.Rows.{table-of}
 use Rattle.x_program.specs.Sound.{Sound}
 use Rattle.x_verdict.specs.Deserved.{Deserves, FirstDeserved}
 use Rattle.x_verdict.specs.Front.{Outcome, refused, accepted, front}
@@ -16,7 +17,7 @@ use Rattle.x_verdict.specs.RefusalOrder.{refused-is-first, first-is-refused, ac
 use Rattle.translate_rules.specs.ImageCode.{image}
 use Rattle.arm_encoding.specs.EncodingLaws.{decode-encode, encode-decode}
 use Rattle.arm_machine.specs.StepLaws.{step-kept}
-use Rattle.translate_source.specs.Translate.{translated, translation, zeros}
+use Rattle.translate_source.specs.Translate.{answered, kept-or-filled, translated, translation, zeros}
 use Rattle.translate_source.specs.TranslationRoom.{accepted-fits}
 use Rattle.theorem_simulation.specs.Demand3.{Lent, Demand3}
 use Rattle.theorem_simulation.specs.Demand3Proof as simulation
@@ -25,18 +26,21 @@ use Rattle.theorem_simulation.specs.Demand4Proof as alike
 use Rattle.theorem_demands.specs.Demands.{Refused, Demand1, Translates, XAs, Demand2, Demands}
 
 -- ── demand 1 ──
-module _ (source : List ℕ) (table code : ℕ) where
-  refuses : (n p : ℕ) → FirstDeserved source table code n p → Refused source table code n p (translation source table code)
+module _ (source table code : List ℕ) where
+  abbrev found : Outcome
+  found = front source (length table) (length code)
+
+  refuses : (n p : ℕ) → FirstDeserved source (length table) (length code) n p → Refused source table code n p (translation source table code)
   unfolding translation
   refuses n p f =
-      let e = first-is-refused source table code n p f in
+      let e = first-is-refused source (length table) (length code) n p f in
       subst (λ (o : Outcome). Refused source table code n p (translated table code o)) (sym e)
       (record {
         status = refl;
         place = refl;
-        numbered = refusal source table code n p e;
-        table-zero = refl;
-        code-zero = refl;
+        numbered = refusal source (length table) (length code) n p e;
+        table-kept = refl;
+        code-kept = refl;
         no-tokens = refl;
         no-rows = refl;
         no-data = refl;
@@ -44,26 +48,26 @@ module _ (source : List ℕ) (table code : ℕ) where
         no-code = refl;
       })
 
-  refused-first : 0 < translation source table code .answer .status → FirstDeserved source table code (translation source table code .answer .status) (translation source table code .answer .place)
+  refused-first : 0 < translation source table code .answer .status
+      → FirstDeserved source (length table) (length code) (translation source table code .answer .status) (translation source table code .answer .place)
   unfolding translation
-  refused-first h = by (front source table code) refl h
+  refused-first h = by found refl h
     where
-      by : (o : Outcome) → front source table code ≡ o → 0 < translated table code o .answer .status
-          → FirstDeserved source table code (translated table code o .answer .status) (translated table code o .answer .place)
-      by (refused n p) e h = refused-is-first source table code n p e
+      by : (o : Outcome) → found ≡ o → 0 < answered o .status → FirstDeserved source (length table) (length code) (answered o .status) (answered o .place)
+      by (refused n p) e h = refused-is-first source (length table) (length code) n p e
       by (accepted n p) e h = absurd (omega arith)
 
-  spared-accepted : ((n p : ℕ) → Deserves source table code n p → ⊥) → translation source table code .answer .status ≡ 0
+  spared-accepted : ((n p : ℕ) → Deserves source (length table) (length code) n p → ⊥) → translation source table code .answer .status ≡ 0
   unfolding translation
-  spared-accepted s = let a = spared-is-accepted source table code s in ap (λ (o : Outcome). translated table code o .answer .status) (a .2)
+  spared-accepted s = let a = spared-is-accepted source (length table) (length code) s in ap (λ (o : Outcome). answered o .status) (a .2)
 
-  accepted-spared : translation source table code .answer .status ≡ 0 → (n p : ℕ) → Deserves source table code n p → ⊥
+  accepted-spared : translation source table code .answer .status ≡ 0 → (n p : ℕ) → Deserves source (length table) (length code) n p → ⊥
   unfolding translation
-  accepted-spared h = by (front source table code) refl h
+  accepted-spared h = by found refl h
     where
-      by : (o : Outcome) → front source table code ≡ o → translated table code o .answer .status ≡ 0 → (n p : ℕ) → Deserves source table code n p → ⊥
-      by (refused n p) e z = absurd (omega (arith, z, refusal source table code n p e .low))
-      by (accepted n p) e z = accepted-is-spared source table code n p e
+      by : (o : Outcome) → found ≡ o → answered o .status ≡ 0 → (n p : ℕ) → Deserves source (length table) (length code) n p → ⊥
+      by (refused n p) e z = absurd (omega (arith, z, refusal source (length table) (length code) n p e .low))
+      by (accepted n p) e z = accepted-is-spared source (length table) (length code) n p e
 
 demand1 : Demand1
 demand1 = record {
@@ -80,10 +84,10 @@ taken : (xs ys : List ℕ) → take (length xs) (xs ++ ys) ≡ xs
 taken xs ys = take-at xs ys (length xs) refl
 
 -- what the front end accepts is translated
-module _ (source : List ℕ) (table code n : ℕ) (p : Program) (e : front source table code ≡ accepted n p) where
-  is-X : XAs source table code p
+module _ (source table code : List ℕ) (n : ℕ) (p : Program) (e : front source (length table) (length code) ≡ accepted n p) where
+  is-X : XAs source (length table) (length code) p
   is-X =
-      let a = exact.accepted-is-X source table code n p e in
+      let a = exact.accepted-is-X source (length table) (length code) n p e in
       record { ts = a .ts; tree = a .tree; is-X = a .is-X; room = a .room; resolved = a .program }
 
   pub front-translates : Translates source table code p
@@ -91,29 +95,31 @@ module _ (source : List ℕ) (table code n : ℕ) (p : Program) (e : front sourc
   front-translates =
       record {
         is-X = is-X;
-        status = ap (λ (o : Outcome). translated table code o .answer .status) e;
-        place = ap (λ (o : Outcome). translated table code o .answer .place) e;
-        data-words = ap (λ (o : Outcome). translated table code o .answer .«data») e;
-        depth = ap (λ (o : Outcome). translated table code o .answer .depth) e;
-        image-bytes = ap (λ (o : Outcome). take (translated table code o .answer .code) (translated table code o .code)) e ∙ taken (image p) (zeros (code - length (image p)));
+        status = ap (λ (o : Outcome). answered o .status) e;
+        place = ap (λ (o : Outcome). answered o .place) e;
+        data-words = ap (λ (o : Outcome). answered o .«data») e;
+        depth = ap (λ (o : Outcome). answered o .depth) e;
+        image-bytes = ap (λ (o : Outcome). take (answered o .code) (kept-or-filled code image o)) e ∙ taken (image p) (zeros (length code - length (image p)));
+        table-filled = ap (kept-or-filled table table-of) e;
+        code-filled = ap (kept-or-filled code image) e;
       }
 
 -- what is X is accepted by the front end
 front-accepts : (source : List ℕ) (table code : ℕ) (p : Program) (x : XAs source table code p) → front source table code ≡ accepted (length (x .ts)) p
 front-accepts source table code p x = accepts-X source (x .ts) (x .tree) table code (x .is-X) (x .room) ∙ ap (accepted (length (x .ts))) (sym (x .resolved))
 
-accepted-is-X : (source : List ℕ) (table code : ℕ) → translation source table code .answer .status ≡ 0 → (p : Program) × Translates source table code p
+accepted-is-X : (source table code : List ℕ) → translation source table code .answer .status ≡ 0 → (p : Program) × Translates source table code p
 unfolding translation
-accepted-is-X source table code h = by (front source table code) refl h
+accepted-is-X source table code h = by (front source (length table) (length code)) refl h
   where
-    by : (o : Outcome) → front source table code ≡ o → translated table code o .answer .status ≡ 0 → (p : Program) × Translates source table code p
-    by (refused n at) e z = absurd (omega (arith, z, refusal source table code n at e .low))
+    by : (o : Outcome) → front source (length table) (length code) ≡ o → answered o .status ≡ 0 → (p : Program) × Translates source table code p
+    by (refused n at) e z = absurd (omega (arith, z, refusal source (length table) (length code) n at e .low))
     by (accepted n p) e z = (p, front-translates source table code n p e)
 
 demand2 : Demand2
 demand2 = record {
   accepted-is-X = accepted-is-X;
-  X-is-accepted = λ source table code p x. front-translates source table code (length (x .ts)) p (front-accepts source table code p x);
+  X-is-accepted = λ source table code p x. front-translates source table code (length (x .ts)) p (front-accepts source (length table) (length code) p x);
   decoded = decode-encode;
   encoded = encode-decode;
 }
@@ -121,15 +127,15 @@ demand2 = record {
 -- ── demands 3 and 4 ──
 
 -- an accepted program is sound, and its image is no longer than code may be
-module _ (source : List ℕ) (table code : ℕ) (p : Program) (t : Translates source table code p) where
-  as-accepted : front source table code ≡ accepted (length (t .is-X .ts)) p
-  as-accepted = front-accepts source table code p (t .is-X)
+module _ (source table code : List ℕ) (p : Program) (t : Translates source table code p) where
+  as-accepted : front source (length table) (length code) ≡ accepted (length (t .is-X .ts)) p
+  as-accepted = front-accepts source (length table) (length code) p (t .is-X)
 
   sound : Sound p
-  sound = accepted-sound source table code (length (t .is-X .ts)) p as-accepted
+  sound = accepted-sound source (length table) (length code) (length (t .is-X .ts)) p as-accepted
 
   short : length (image p) ≤ 65536
-  short = omega (arith, accepted-fits source table code (length (t .is-X .ts)) p as-accepted .small)
+  short = omega (arith, accepted-fits source (length table) (length code) (length (t .is-X .ts)) p as-accepted .small)
 
   demand3 : (memory : List ℕ) → Lent p memory → Demand3 p memory
   demand3 memory l = simulation.demand3 p sound short memory l

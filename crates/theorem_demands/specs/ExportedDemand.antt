@@ -71,7 +71,7 @@ pub record SameLeft (p : Program) (a b : Left) : Type 0 where
 
 pub record Exported : Type 0 where
   -- any accepted source, any starting words, needed words <= memory <= 16,384 words, any list of exported calls
-  pub three : (source : List ℕ) (table code : ℕ) (p : Program) (memory : List ℕ) → Translates source table code p → Lent p memory → AtBoundary p memory
+  pub three : (source table code : List ℕ) (p : Program) (memory : List ℕ) → Translates source table code p → Lent p memory → AtBoundary p memory
   -- two memories that agree in the D declared words
-  pub four : (source : List ℕ) (table code : ℕ) (p : Program) (memory other : List ℕ) → Translates source table code p → Lent p memory → Lent p other → Agree p memory other
+  pub four : (source table code : List ℕ) (p : Program) (memory other : List ℕ) → Translates source table code p → Lent p memory → Lent p other → Agree p memory other
       → (ks : List Call) → Both (SameLeft p) (exported-calls (image p) ks memory (first-words p)) (exported-calls (image p) ks other (first-words p))

@@ -70,7 +70,7 @@ halfwords e = e .status ∷ e .count ∷ e .first ∷ e .second ∷ []
 
 abbrev pub comes-to : Case → List ℕ
 comes-to (translating s) = seen (front s 32 640)
-comes-to (running s) = run-all (translation s 32 640)
+comes-to (running s) = run-all (translation s (replicate 32 7) (replicate 640 7))
 comes-to (encoding i) = halfwords (encodeOf i)
 
 -- `var x; x := 2 + 3`, the empty source, `x := 1`, `{skip;}`; `#80000000 < 1` and `1 << 256`, each assigned to a variable; MOVI r0,5, ADDR r0,r1,r2, SUBR r3,r4,r5, STRI r0 to r7 offset 4,

@@ -58,21 +58,13 @@ pub some-row : (q : Program) → 0 < row-count q
 unfolding row-count
 some-row q = omega (arith, some-rows-process (core-process (q .body)))
 
-cleared : (l l′ : List ℕ) → l′ ≡ take 0 l ++ replicate (length l - 0) 0 → l′ ≡ zeros (length l)
-cleared l l′ e = let z : length l - 0 ≡ length l = omega arith in e ∙ ap zeros z
-
--- the two answers
-pub refused-left : (number place : ℕ) (t t′ c c′ : List ℕ) → t′ ≡ take 0 t ++ replicate (length t - 0) 0 → c′ ≡ take 0 c ++ replicate (length c - 0) 0
-    → left (record { status = number; place = place; tokens = 0; rows = 0; «data» = 0; depth = 0; code = 0 }) t′ c′ ≡ translated (length t) (length c) (refused number place)
-refused-left number place t t′ c c′ e f =
-    λ j. left (record { status = number; place = place; tokens = 0; rows = 0; «data» = 0; depth = 0; code = 0 }) (cleared t t′ e j) (cleared c c′ f j)
-
-pub accepted-left : (table code tokens count words depth end : ℕ) (q : Program) (t′ c′ : List ℕ) → count ≡ row-count q → words ≡ data-words (q .declarations) → depth ≡ deepest (q .body)
-    → end ≡ length (image q) → t′ ≡ filled table (table-of q) → c′ ≡ filled code (image q)
+-- an accepted program's answer and buffers, part by part
+pub accepted-left : (table code : List ℕ) (tokens count words depth end : ℕ) (q : Program) (t′ c′ : List ℕ) → count ≡ row-count q → words ≡ data-words (q .declarations) → depth ≡ deepest (q .body)
+    → end ≡ length (image q) → t′ ≡ filled (length table) (table-of q) → c′ ≡ filled (length code) (image q)
     → left (record { status = 0; place = 0; tokens = tokens; rows = count; «data» = words; depth = depth; code = end }) t′ c′ ≡ translated table code (accepted tokens q)
 accepted-left table code tokens count words depth end q t′ c′ r w d e f g =
     λ j. left (record { status = 0; place = 0; tokens = tokens; rows = r j; «data» = w j; depth = d j; code = e j }) (f j) (g j)
 
-pub come-to : (source : List ℕ) (table code : ℕ) (o : Outcome) (x : Translated) → front source table code ≡ o → x ≡ translated table code o → x ≡ translation source table code
+pub come-to : (source table code : List ℕ) (o : Outcome) (x : Translated) → front source (length table) (length code) ≡ o → x ≡ translated table code o → x ≡ translation source table code
 unfolding translation
 come-to source table code o x e h = h ∙ ap (translated table code) (sym e)

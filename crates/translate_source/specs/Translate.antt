@@ -2,7 +2,7 @@
 use mathlib.Core.List.{List, _++_}
 use Prim.Native.Nat.{ℕ, _-_}
 use lib.ListN.{length, replicate}
-use Rattle.x_program.specs.Tree.{data-words}
+use Rattle.x_program.specs.Tree.{Program, data-words}
 use Rattle.x_program.specs.ProgramDepth.{deepest}
 use Rattle.x_program.specs.Rows.{table-of, row-count}
 use Rattle.x_verdict.specs.Front.{Outcome, refused, accepted, front}
@@ -27,20 +27,21 @@ zeros n = replicate n 0
 abbrev pub filled : ℕ → List ℕ → List ℕ
 filled size xs = xs ++ zeros (size - length xs)
 
--- Limits and refusals: "Status 0, place 0 is accepted"; "[A refusal] zeroes table and code buffer wholly and its counts are all 0"
-abbrev pub translated : ℕ → ℕ → Outcome → Translated
-translated table code (refused n p) = record {
-  answer = record { status = n; place = p; tokens = 0; rows = 0; «data» = 0; depth = 0; code = 0 };
-  table = zeros table;
-  code = zeros code;
-}
-translated table code (accepted n p) = record {
-  answer = record
-      { status = 0; place = 0; tokens = n; rows = row-count p; «data» = data-words (p .declarations); depth = deepest (p .body); code = length (image p) };
-  table = filled table (table-of p);
-  code = filled code (image p);
-}
+-- Limits and refusals: "Status 0, place 0 is accepted"; of a refusal "its counts are all 0"
+abbrev pub answered : Outcome → Translation
+answered (refused n p) = record { status = n; place = p; tokens = 0; rows = 0; «data» = 0; depth = 0; code = 0 }
+answered (accepted n p) =
+    record { status = 0; place = 0; tokens = n; rows = row-count p; «data» = data-words (p .declarations); depth = deepest (p .body); code = length (image p) }
 
--- a source, a table of so many words and a code buffer of so many bytes
-unfoldable pub translation : List ℕ → ℕ → ℕ → Translated
-translation source table code = translated table code (front source table code)
+-- request 2026-06, of each of the two buffers: "a refusal changes neither buffer; an accepted call zeroes the rest as before"
+abbrev pub kept-or-filled : List ℕ → (Program → List ℕ) → Outcome → List ℕ
+kept-or-filled old contents (refused n p) = old
+kept-or-filled old contents (accepted n p) = filled (length old) (contents p)
+
+-- the answer and both buffers after the call, from what these held before
+abbrev pub translated : List ℕ → List ℕ → Outcome → Translated
+translated table code o = left (answered o) (kept-or-filled table table-of o) (kept-or-filled code image o)
+
+-- a source, the words that the table holds before the call and the bytes that the code buffer does
+unfoldable pub translation : List ℕ → List ℕ → List ℕ → Translated
+translation source table code = translated table code (front source (length table) (length code))

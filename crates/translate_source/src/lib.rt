@@ -34,12 +34,11 @@ pub struct Translation {
     pub code: u32,
 }
 
-// A refusal: both buffers all zero.
+// A refusal: number and place. The buffers are lent to it for its promise: yesterday's table and image stay in them.
 fn refuse(table: &mut [u32], code: &mut [u8], number: u32, place: u32) -> Translation
-    ensures { λ r. ⌜ left r (now (table .exit)) (now (code .exit)) ≡ translated (length (now (table .entry))) (length (now (code .entry))) (front.refused number place) ⌝ }
+    ensures { λ r. ⌜ left r (now (table .exit)) (now (code .exit)) ≡ translated (now (table .entry)) (now (code .entry)) (front.refused number place) ⌝ }
 {
-    clear_words(table, 0);
-    clear_bytes(code, 0);
+    // neither buffer is written to
     Translation {
         status: number,
         place,
@@ -83,7 +82,7 @@ fn accept(
 ) -> Translation
     requires { ⌜ (length (now rows) ≡ 4096) × ((q : tree.Program) × Parts (now rows) (length (now table)) (length (now code)) tokens count words depth q) ⌝ }
     ensures { λ r. ⌜ ((q : tree.Program) → Parts (now (rows .entry)) (length (now (table .entry))) (length (now (code .entry))) tokens count words depth q
-        → left r (now (table .exit)) (now (code .exit)) ≡ translated (length (now (table .entry))) (length (now (code .entry))) (front.accepted tokens q)) ⌝ }
+        → left r (now (table .exit)) (now (code .exit)) ≡ translated (now (table .entry)) (now (code .entry)) (front.accepted tokens q)) ⌝ }
 {
     fill_table(rows, count, table);
     let end = fill_code(rows, count, code);
@@ -110,7 +109,7 @@ fn accept_rows(
 ) -> Translation
     requires { ⌜ ((q : tree.Program) × Parts (now rows) (length (now table)) (length (now code)) tokens count words depth q) ⌝ }
     ensures { λ r. ⌜ ((q : tree.Program) → Parts (now (rows .entry)) (length (now (table .entry))) (length (now (code .entry))) tokens count words depth q
-        → left r (now (table .exit)) (now (code .exit)) ≡ translated (length (now (table .entry))) (length (now (code .entry))) (front.accepted tokens q)) ⌝ }
+        → left r (now (table .exit)) (now (code .exit)) ≡ translated (now (table .entry)) (now (code .entry)) (front.accepted tokens q)) ⌝ }
 {
     accept(rows, tokens, count, words, depth, table, code)
 }
@@ -118,7 +117,7 @@ fn accept_rows(
 // A source, a lent table of words and a lent code buffer of bytes. No heap; working arrays of 30 KB, and the stack that the recursion
 // over nested parts takes (docs/BENCHMARKS.md). Nothing is written to the lent buffers before the decision is made.
 pub fn translate(source: &[u8], table: &mut [u32], code: &mut [u8]) -> Translation
-    ensures { λ r. ⌜ left r (now (table .exit)) (now (code .exit)) ≡ translation (now (source .entry)) (length (now (table .entry))) (length (now (code .entry))) ⌝ }
+    ensures { λ r. ⌜ left r (now (table .exit)) (now (code .exit)) ≡ translation (now (source .entry)) (now (table .entry)) (now (code .entry)) ⌝ }
 {
     let mut rows: [u32; 4096] = [0; 4096];
     let a = analyse(source, table.len(), code.len(), &mut rows);

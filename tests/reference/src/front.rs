@@ -40,11 +40,15 @@ pub struct Outcome {
 }
 
 impl Outcome {
-    /// The whole lent table after the call: a refusal "zeroes table and code
-    /// buffer wholly", and an accepted call "zeroes what lies past the table".
-    pub fn lent_table(&self, table_words: usize) -> Vec<u32> {
+    /// The whole lent table after the call, from what it held before: "a
+    /// refusal changes neither buffer" (request 2026-06), and an accepted call
+    /// "zeroes what lies past the table".
+    pub fn lent_table(&self, before: &[u32]) -> Vec<u32> {
+        if self.status != 0 {
+            return before.to_vec();
+        }
         let mut words = self.table.clone();
-        words.resize(table_words, 0);
+        words.resize(before.len(), 0);
         words
     }
 }

@@ -3,17 +3,17 @@
 use crate::{by_status, print};
 use reference::front::{translate_front, Outcome};
 use reference::generate::{edges, source, token_strings, valid_source, Random};
-use tests::{proved, second, Translation, Translator, CODE_BYTES, TABLE_WORDS};
+use tests::{needed_words, proved, second, Translation, Translator, CODE_BYTES, TABLE_WORDS};
 
 /// Cells on either side of a lent buffer, which a call has to leave alone.
 const MARGIN: usize = 8;
 
-/// The buffers that are lent, used again and again: what a call left is part of the next one's rubbish.
+/// The buffers that are lent, and what they held before the call.
 struct Lent {
     table: Vec<u32>,
     code: Vec<u8>,
-    second_table: Vec<u32>,
-    second_code: Vec<u8>,
+    table_before: Vec<u32>,
+    code_before: Vec<u8>,
     statuses: [u64; 15],
 }
 
@@ -22,13 +22,14 @@ impl Lent {
         Lent {
             table: vec![0; 2 * TABLE_WORDS],
             code: vec![0; 2 * CODE_BYTES],
-            second_table: vec![0; 2 * TABLE_WORDS],
-            second_code: vec![0; 2 * CODE_BYTES],
+            table_before: vec![0; 2 * TABLE_WORDS],
+            code_before: vec![0; 2 * CODE_BYTES],
             statuses: [0; 15],
         }
     }
 
-    /// One call on buffers full of rubbish, compared with the reference's front and the second image.
+    /// One call on buffers full of random words and bytes, compared with the reference's front and the second image:
+    /// a refusal, whatever its number, leaves every one of them.
     fn compare(
         &mut self,
         translator: Translator,
@@ -39,10 +40,14 @@ impl Lent {
         let (words, bytes) = sizes;
         let table = &mut self.table[..words + 2 * MARGIN];
         let code = &mut self.code[..bytes + 2 * MARGIN];
-        let rubbish = random.number() as u32 | 1;
-        table.fill(rubbish);
-        code.fill(rubbish as u8 | 1);
-        let got = translator(source, &mut table[MARGIN..MARGIN + words], &mut code[MARGIN..MARGIN + bytes]);
+        let table_before = &mut self.table_before[..words + 2 * MARGIN];
+        let code_before = &mut self.code_before[..bytes + 2 * MARGIN];
+        fill(random, table, code);
+        table_before.copy_from_slice(table);
+        code_before.copy_from_slice(code);
+        let lent = MARGIN..MARGIN + words;
+        let lent_bytes = MARGIN..MARGIN + bytes;
+        let got = translator(source, &mut table[lent.clone()], &mut code[lent_bytes.clone()]);
 
         let shown = || format!("{:?}, lent {words} words and {bytes} bytes", String::from_utf8_lossy(source));
         let front = translate_front(source, words, bytes);
@@ -50,20 +55,13 @@ impl Lent {
         let counts = [place, tokens, rows, data, depth].map(|count| count as u32);
         let answer = [got.place, got.tokens, got.rows, got.data, got.depth];
         assert_eq!((got.status, answer), (status, counts), "answer of {}", shown());
-        let (lent, margins) = split(table, words);
-        assert!(lent == front.lent_table(words), "table of {}", shown());
-        assert!(margins.iter().all(|&cell| cell == rubbish), "words outside the table of {}", shown());
+        assert!(table[lent.clone()] == front.lent_table(&table_before[lent.clone()]), "table of {}", shown());
 
-        let image = &mut self.second_code[..bytes];
-        let want = second::translate(source, &mut self.second_table[..words], image);
+        // the second translation on the same words and bytes: the margins too are to be as it leaves them
+        let want = second::translate(source, &mut table_before[lent], &mut code_before[lent_bytes]);
         assert_eq!(got, want, "answer of {}", shown());
-        let (lent, margins) = split(code, bytes);
-        assert!(lent == image, "code buffer of {}", shown());
-        assert!(
-            margins.iter().all(|&cell| cell == rubbish as u8 | 1),
-            "bytes outside the code buffer of {}",
-            shown()
-        );
+        assert!(table == table_before, "table and words around it of {}", shown());
+        assert!(code == code_before, "code buffer and bytes around it of {}", shown());
         self.statuses[status as usize] += 1;
         got
     }
@@ -73,10 +71,15 @@ impl Lent {
     }
 }
 
-/// The lent cells, and those around them.
-fn split<T: Copy>(cells: &[T], length: usize) -> (&[T], Vec<T>) {
-    let margins = [&cells[..MARGIN], &cells[MARGIN + length..]].concat();
-    (&cells[MARGIN..MARGIN + length], margins)
+/// Random words and bytes, a number for two words or eight bytes.
+fn fill(random: &mut Random, table: &mut [u32], code: &mut [u8]) {
+    for words in table.chunks_mut(2) {
+        let number = random.number();
+        words.copy_from_slice(&[number as u32, (number >> 32) as u32][..words.len()]);
+    }
+    for bytes in code.chunks_mut(8) {
+        bytes.copy_from_slice(&random.number().to_le_bytes()[..bytes.len()]);
+    }
 }
 
 /// Lengths to lend for a source of so many tokens: mostly enough, at times just enough, or too short.
@@ -157,28 +160,85 @@ fn the_second_translation_passes() {
     generated(&mut lent, second::translate, 13, 5_000, source);
 }
 
-/// And these don't: always refusing, leaving the rest of a buffer, a count too many.
+/// And these don't: always refusing, a refusal that zeroes the table or the first byte of code, an accepted call that
+/// leaves the rest of a buffer or zeroes no more than the image, a count too many.
 #[test]
 fn wrong_translations_are_noticed() {
-    fn refuses(_: &[u8], table: &mut [u32], code: &mut [u8]) -> Translation {
-        table.fill(0);
-        code.fill(0);
+    fn refuses(_: &[u8], _: &mut [u32], _: &mut [u8]) -> Translation {
         Translation { status: 1, ..Translation::default() }
     }
-    fn leaves(source: &[u8], table: &mut [u32], code: &mut [u8]) -> Translation {
+    fn zeroes_table(source: &[u8], table: &mut [u32], code: &mut [u8]) -> Translation {
+        let got = second::translate(source, table, code);
+        if got.status != 0 {
+            table.fill(0);
+        }
+        got
+    }
+    fn zeroes_byte(source: &[u8], table: &mut [u32], code: &mut [u8]) -> Translation {
+        let got = second::translate(source, table, code);
+        if got.status != 0 {
+            code[0] = 0;
+        }
+        got
+    }
+    fn leaves_byte(source: &[u8], table: &mut [u32], code: &mut [u8]) -> Translation {
         let rest = *code.last().unwrap();
         let got = second::translate(source, table, code);
-        *code.last_mut().unwrap() = rest;
+        if got.status == 0 {
+            *code.last_mut().unwrap() = rest;
+        }
+        got
+    }
+    fn leaves_rows(source: &[u8], table: &mut [u32], code: &mut [u8]) -> Translation {
+        let before = table.to_vec();
+        let got = second::translate(source, table, code);
+        let end = 4 * got.rows as usize;
+        table[end..].copy_from_slice(&before[end..]);
         got
     }
     fn counts(source: &[u8], table: &mut [u32], code: &mut [u8]) -> Translation {
         let got = second::translate(source, table, code);
         Translation { tokens: got.tokens + 1, ..got }
     }
-    for wrong in [refuses, leaves, counts] {
-        let compared = std::panic::catch_unwind(|| {
-            Lent::new().compare(wrong, &mut Random::new(1), b"skip", (4, 400));
-        });
-        assert!(compared.is_err());
+    let noticed = |wrong: Translator, source: &str| {
+        let compare = || Lent::new().compare(wrong, &mut Random::new(1), source.as_bytes(), (40, 800));
+        std::panic::catch_unwind(compare).is_err()
+    };
+    for wrong in [refuses, leaves_byte, leaves_rows, counts] {
+        assert!(noticed(wrong, "skip"));
     }
+    for wrong in [zeroes_table, zeroes_byte] {
+        assert!(!noticed(wrong, "skip"));
+        assert!(noticed(wrong, "skip;"));
+    }
+}
+
+/// "A scanner that gets a bad update must go on with the old ones": a rule is halfway through its run when an update
+/// is refused over the same two buffers, by each number; it ends as it does without one, by the answer that was kept.
+#[test]
+fn a_refused_update_keeps_the_rule() {
+    const RULE: &[u8] = b"var n; var sum; array w[3]; {sum := 0; while n do {n := n - 1; sum := sum + w[n]}}";
+    const HALFWAY: u64 = 40;
+    let (mut table, mut code) = (vec![9; TABLE_WORDS], vec![9; CODE_BYTES]);
+    let rule = proved::translate(RULE, &mut table, &mut code);
+    assert_eq!(rule.status, 0);
+    let image = rule.code as usize;
+    let mut statuses = [0; 15];
+    for update in edges().iter().filter(|edge| edge.status != 0) {
+        let mut memory = vec![0; needed_words(rule.data, rule.depth)];
+        memory[..5].copy_from_slice(&[3, 7, 10, 20, 30]);
+        let (_, mut state) = proved::start(&code[..image], &memory, rule.data, rule.depth);
+        assert_eq!(proved::run(&mut state, &code[..image], &mut memory, HALFWAY), (0, 0, HALFWAY));
+        let (words, bytes) = (update.table_words, update.code_bytes);
+        let refused = proved::translate(&update.source, &mut table[..words], &mut code[..bytes]);
+        assert_eq!(
+            refused,
+            Translation { status: update.status, place: update.place as u32, ..Translation::default() }
+        );
+        let (status, number, _) = proved::run(&mut state, &code[..image], &mut memory, 1_000);
+        assert_eq!((status, number, &memory[..5]), (1, 0, &[0, 60, 10, 20, 30][..]));
+        statuses[update.status as usize] += 1;
+    }
+    assert!(statuses[1..].iter().all(|&count| count > 0), "every refusal is seen");
+    print(&format!("translate: refused updates of a running rule by status {}", by_status(&statuses)));
 }

@@ -118,13 +118,13 @@ fn names_like_reserved_words() {
     let mut refused = 0;
     for name in &names {
         let source = format!("var {name}; {name} := 1");
-        let [(got, _, code), (want, _, second_code)] =
+        let [(got, buffers), (want, second_buffers)] =
             [proved::translate, second::translate].map(|translate| {
-                let (mut table, mut code) = (vec![0; TABLE_WORDS], vec![0; CODE_BYTES]);
-                (translate(source.as_bytes(), &mut table, &mut code), table, code)
+                let (mut table, mut code) = (vec![7; TABLE_WORDS], vec![7; CODE_BYTES]);
+                (translate(source.as_bytes(), &mut table, &mut code), (table, code))
             });
         assert_eq!(got, want, "{name}");
-        assert!(code == second_code, "{name}");
+        assert!(buffers == second_buffers, "{name}");
         let expected = if lookup(name).1.is_some() { 6 } else { 4 * u32::from(name.len() > 32) };
         assert_eq!(got.status, expected, "{name}");
         refused += u32::from(got.status == 6);

@@ -36,5 +36,5 @@ accept-spec =
     (λ c. let fill-table = c .before .before .before .before .before .before .fill-table in
     let a = c .before .before .before .before .before .before .before .before .before .before .before .args in
     λ q p. let f = c .before .before .fill-code .ensures q (p .sound) (p .holds) (p .rows-are) (p .fits .in-code) in
-    accepted-left _ _ (a .tokens) (a .count) (a .words) (a .depth) _ q _ _ (p .rows-are) (p .words-are) (p .depth-is) (f .1)
+    accepted-left (a .table .now) (a .code .now) (a .tokens) (a .count) (a .words) (a .depth) _ q _ _ (p .rows-are) (p .words-are) (p .depth-is) (f .1)
     (fill-table .ensures (table-of q) (length-table q ∙ omega (arith, p .rows-are)) (p .holds)) (f .0)))

@@ -22,7 +22,7 @@ translate-spec =
     (λ c. let refuse = c .before .before .before .before .refuse in let a′ = c .before .before .before .before .before .before .before .before .a in
     let analyse = c .before .before .before .before .before .before .before .before .before .before .analyse in
     let a = c .before .before .before .before .before .before .before .before .before .before .before .before .before .before .before .args in
-    come-to (a .source .now) (length (a .table .now)) (length (a .code .now)) _ _
+    come-to (a .source .now) (a .table .now) (a .code .now) _ _
     (subst (Analysed (front (a .source .now) (length (a .table .now)) (length (a .code .now))) (analyse .last .1 .1 .1 .0)) (a′ .given .1) (analyse .ensures)) (refuse .ensures))
     (λ c. search needs) (λ c. search needs)
     (λ c. let c4 = c .before .before .before .before in let c9 = c4 .before .before .before .before .before in let c11 = c9 .before .before in
@@ -30,4 +30,4 @@ translate-spec =
     let f = subst (Analysed (front (a .source .now) (length (a .table .now)) (length (a .code .now))) (c11 .analyse .last .1 .1 .1 .0)) (c9 .a2 .given .1) (c11 .analyse .ensures) in
     let p = found-parts (a .source .now) (c11 .analyse .last .1 .1 .1 .0) (length (a .table .now)) (length (a .code .now)) (c9 .a2 .given .0 .0) (c9 .a2 .given .0 .1 .0)
     (c9 .a2 .given .0 .1 .1 .0) (c9 .a2 .given .0 .1 .1 .1 .0) f in
-    come-to (a .source .now) (length (a .table .now)) (length (a .code .now)) _ _ (f .outcome) (c4 .accept-rows .ensures (f .tree) p)))
+    come-to (a .source .now) (a .table .now) (a .code .now) _ _ (f .outcome) (c4 .accept-rows .ensures (f .tree) p)))

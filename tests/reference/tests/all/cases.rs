@@ -84,7 +84,7 @@ fn marked_assignment() {
     let outcome =
         Outcome { status: 0, place: 0, tokens: 8, rows: 5, data: 1, depth: 2, table: expected.concat() };
     assert_eq!(translate(source), outcome);
-    let lent = outcome.lent_table(32);
+    let lent = outcome.lent_table(&[9; 32]);
     assert_eq!(lent[..20], expected.concat());
     assert_eq!(lent[20..], [0; 12]);
 }
@@ -103,9 +103,9 @@ fn marked_refusals_and_values() {
 }
 
 #[test]
-fn a_refusal_has_no_counts() {
+fn a_refusal_has_no_counts_and_keeps_the_table() {
     assert_eq!(translate("skip;"), Outcome { status: 6, place: 4, ..Outcome::default() });
-    assert_eq!(translate("skip;").lent_table(3), [0, 0, 0]);
+    assert_eq!(translate("skip;").lent_table(&[7, 8, 9]), [7, 8, 9]);
 }
 
 #[test]
