@@ -12,10 +12,10 @@ use Rattle.x_program.specs.Rows.{table-of, row-count}
 use Rattle.x_program.specs.TableReadBack.{Holds, some-rows-process}
 use Rattle.x_program.specs.Core.{core-process}
 use Rattle.x_program.specs.Sound.{Sound}
-use Rattle.x_verdict.specs.Front.{Outcome, refused, accepted, front}
+use Rattle.x_verdict.specs.Front.{Outcome, accepted, front}
 use Rattle.x_verdict.specs.Refused.{accepted-sound}
 use Rattle.front_analysis.specs.Analysed.{Found}
-use Rattle.translate_source.specs.Translate.{Translated, left, translated, translation, zeros, filled}
+use Rattle.translate_source.specs.Translate.{Translated, left, translated, translation, filled}
 use Rattle.translate_rules.specs.ImageCode.{image}
 use Rattle.translate_source.specs.TranslationRoom.{Fits, accepted-fits}
 

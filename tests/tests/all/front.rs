@@ -161,7 +161,7 @@ fn the_second_translation_passes() {
 }
 
 /// And these don't: always refusing, a refusal that zeroes the table or the first byte of code, an accepted call that
-/// leaves the rest of a buffer or zeroes no more than the image, a count too many.
+/// leaves the rest of the table or the last byte of code, a count too many.
 #[test]
 fn wrong_translations_are_noticed() {
     fn refuses(_: &[u8], _: &mut [u32], _: &mut [u8]) -> Translation {
