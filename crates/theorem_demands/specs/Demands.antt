@@ -4,6 +4,8 @@ use mathlib.Core.Path.{_≡_}
 use mathlib.Core.List.{List}
 use Prim.Native.Nat.{ℕ, _<_}
 use lib.ListN.{length, take}
+use lib.Dec.{eqb}
+use Rattle.arm_word.specs.Choice.{pick}
 use Rattle.x_tokens.specs.TokenList.{Entry}
 use Rattle.x_grammar.specs.Grammar as grammar
 use Rattle.x_program.specs.Tree.{Program}
@@ -13,7 +15,7 @@ use Rattle.x_verdict.specs.Symbols.{text-of}
 use Rattle.x_verdict.specs.IsX.{IsX, Room}
 use Rattle.x_verdict.specs.Deserved.{Deserves, FirstDeserved, Numbered}
 use Rattle.translate_rules.specs.ImageCode.{image}
-use Rattle.translate_source.specs.Translate.{Translated, translation, filled}
+use Rattle.translate_source.specs.Translate.{Translated, left, filled, translation}
 use Rattle.arm_encoding.specs.Encoding.{encodeOf, decodeOf, whole}
 use Rattle.arm_encoding.specs.declared.Instr.{Instr}
 use Rattle.arm_encoding.specs.declared.Decoded.the-variants.{Known}
@@ -39,6 +41,12 @@ pub record Refused (source table code : List ℕ) (n p : ℕ) (t : Translated) :
   pub no-depth : t .answer .depth ≡ 0
   pub no-code : t .answer .code ≡ 0
 
+-- what a caller has that takes an update only where it is accepted (examples/c/pallet.c): the answer of the rule in use, and the two buffers
+abbrev pub update : Translated → List ℕ → Translated
+update rule source =
+    let new = translation source (rule .table) (rule .code) in
+    pick (eqb (new .answer .status) 0) new (left (rule .answer) (new .table) (new .code))
+
 -- "An instruction that faults changes no register and no word"; nor does an SVC or a refusal
 pub record Unchanged (code words : List ℕ) (m : Machine) : Type 0 where
   pub machine : stepOf code words m .after .state .machine ≡ m
@@ -52,6 +60,8 @@ pub record Demand1 : Type 0 where
   -- "A refusal is given in no other case"
   pub accepts : (source table code : List ℕ) → ((n p : ℕ) → Deserves source (length table) (length code) n p → ⊥) → translation source table code .answer .status ≡ 0
   pub accepted-spared : (source table code : List ℕ) → translation source table code .answer .status ≡ 0 → (n p : ℕ) → Deserves source (length table) (length code) n p → ⊥
+  -- request 2026-06: "A scanner that gets a bad update must go on with the old ones"
+  pub goes-on : (rule : Translated) (source : List ℕ) → 0 < translation source (rule .table) (rule .code) .answer .status → update rule source ≡ rule
   pub faulted : (code words : List ℕ) (m : Machine) → 0 < stepOf code words m .after .state .status → Unchanged code words m
 
 -- ── demand 2: exactly X, exactly Arm ──

@@ -1,7 +1,7 @@
 -- The premises of the demands can be met: document 01's `var x; x := 2 + 3`, from its bytes to the end of its run. Instances.
 use mathlib.Core.Path.{_≡_, refl, ap, _∙_}
 use mathlib.Core.List.{List, [], _∷_}
-use Prim.Native.Nat.{ℕ, _≤_, _<_}
+use Prim.Native.Nat.{ℕ, _≤_}
 use native.Mathlib.Omega.{arith}
 use lib.ListN.{take, replicate}
 use lib.Dec.{lit≤}
@@ -26,7 +26,7 @@ use Rattle.translate_rules.specs.Blocks.{push-constant, work-diadic-code, assig
 use Rattle.translate_rules.specs.ImageCode.{expression-code, process-code, image-code, image}
 use Rattle.translate_source.specs.Translate.{Translated, translation}
 use Rattle.theorem_simulation.specs.Demand3.{Lent, run, call, EndsBy, started, Demand3}
-use Rattle.theorem_demands.specs.Demands.{Translates}
+use Rattle.theorem_demands.specs.Demands.{Translates, update}
 use Rattle.theorem_demands.specs.DemandsProof.{front-translates, demands}
 
 -- its bytes, the program that they are, buffers that hold old words and bytes, and memory of the 13 needed words
@@ -66,28 +66,24 @@ pub ends-five : (l : ℕ) × ((limit : ℕ) → l ≤ limit → EndsBy five 0 (5
 unfolding data-words
 ends-five = demand-five .ends 7 0 refl
 
--- ── request 2026-06: "A scanner that gets a bad update must go on with the old ones" ──
+-- ── request 2026-06: an update is refused, and yesterday's rule goes on ──
 
--- an update that is refused, into the buffers that an accepted source was translated into: the image that demands 3 and 4 speak of still is the code
-pub goes-on : (source table code : List ℕ) (p : Program) (update : List ℕ) → Translates source table code p
-    → let old = translation source table code in let new = translation update (old .table) (old .code) in 0 < new .answer .status → take (old .answer .code) (new .code) ≡ image p
-goes-on source table code p update t h =
-    let old = translation source table code in
-    let kept = demands .one .refuses update (old .table) (old .code) _ _ (demands .one .refused-first update (old .table) (old .code) h) in
-    ap (take (old .answer .code)) (kept .code-kept) ∙ t .image-bytes
-
--- `x := 1`, which declares no x, as the update of yesterday's rule
 abbrev yesterday : Translated
 yesterday = translation source table code
 
-abbrev update : List ℕ
-update = ascii "x := 1"
+-- it declares no x
+abbrev bad : List ℕ
+bad = ascii "x := 1"
 
-refused-update : translation update (yesterday .table) (yesterday .code) .answer .status ≡ 8
+refused-bad : translation bad (yesterday .table) (yesterday .code) .answer .status ≡ 8
 unfolding translation front outcome scan lexeme lexemes.named lexemes.number double single symbol one-of digit-value name-character span numeral same reserved first-match automaton.reads
     automaton.run symbols entry-at unread-place named least lookup data-words table-of row-count rows count rows-process count-process declared-rows image image-code process-code
     expression-code push-constant work-diadic-code assign-variable load-constant bytes bytes-of encoded-bytes encodeOf put
-refused-update = refl
+refused-bad = refl
 
-pub five-goes-on : take (yesterday .answer .code) (translation update (yesterday .table) (yesterday .code) .code) ≡ image five
-five-goes-on = goes-on source table code five update translates-five (omega (arith, refused-update))
+pub five-goes-on : update yesterday bad ≡ yesterday
+five-goes-on = demands .one .goes-on yesterday bad (omega (arith, refused-bad))
+
+-- so the code still is the image that demands 3 and 4 speak of
+pub still-five : take (update yesterday bad .answer .code) (update yesterday bad .code) ≡ image five
+still-five = ap (λ (t : Translated). take (t .answer .code) (t .code)) five-goes-on ∙ translates-five .image-bytes

@@ -1,10 +1,13 @@
 -- The four demands proved from the layers' theorems. Assumes nothing.
 use mathlib.Core.Path.{_≡_, refl, sym, ap, subst, _∙_}
+use mathlib.Core.Bool.{false}
 use mathlib.Core.List.{List, _++_}
 use Prim.Native.Nat.{ℕ, _-_, _≤_, _<_}
 use native.Mathlib.Omega.{arith}
 use lib.ListN.{length, take}
 use lib.Seq.{take-at}
+use lib.Dec.{eqb}
+use borrow.Author.Tests.{ne-eqb}
 use Rattle.x_program.specs.Tree.{Program}
 use Rattle.x_program.specs.Rows.{table-of}
 use Rattle.x_program.specs.Sound.{Sound}
@@ -17,13 +20,13 @@ use Rattle.x_verdict.specs.RefusalOrder.{refused-is-first, first-is-refused, ac
 use Rattle.translate_rules.specs.ImageCode.{image}
 use Rattle.arm_encoding.specs.EncodingLaws.{decode-encode, encode-decode}
 use Rattle.arm_machine.specs.StepLaws.{step-kept}
-use Rattle.translate_source.specs.Translate.{answered, kept-or-filled, translated, translation, zeros}
+use Rattle.translate_source.specs.Translate.{Translated, left, zeros, answered, kept-or-filled, translated, translation}
 use Rattle.translate_source.specs.TranslationRoom.{accepted-fits}
 use Rattle.theorem_simulation.specs.Demand3.{Lent, Demand3}
 use Rattle.theorem_simulation.specs.Demand3Proof as simulation
 use Rattle.theorem_simulation.specs.Demand4.{Agree, Demand4}
 use Rattle.theorem_simulation.specs.Demand4Proof as alike
-use Rattle.theorem_demands.specs.Demands.{Refused, Demand1, Translates, XAs, Demand2, Demands}
+use Rattle.theorem_demands.specs.Demands.{Refused, update, Demand1, Translates, XAs, Demand2, Demands}
 
 -- ── demand 1 ──
 module _ (source table code : List ℕ) where
@@ -69,12 +72,20 @@ module _ (source table code : List ℕ) where
       by (refused n p) e z = absurd (omega (arith, z, refusal source (length table) (length code) n p e .low))
       by (accepted n p) e z = accepted-is-spared source (length table) (length code) n p e
 
+goes-on : (rule : Translated) (source : List ℕ) → 0 < translation source (rule .table) (rule .code) .answer .status → update rule source ≡ rule
+goes-on rule source h =
+    let n = translation source (rule .table) (rule .code) .answer .status in
+    let bad : eqb n 0 ≡ false = ne-eqb n 0 (λ e. omega (arith, e)) in
+    let kept = refuses source (rule .table) (rule .code) _ _ (refused-first source (rule .table) (rule .code) h) in
+    rw bad (λ j. left (rule .answer) (kept .table-kept j) (kept .code-kept j))
+
 demand1 : Demand1
 demand1 = record {
   refuses = refuses;
   refused-first = refused-first;
   accepts = spared-accepted;
   accepted-spared = accepted-spared;
+  goes-on = goes-on;
   faulted = λ code words m h. let k = step-kept code words m h in record { machine = k .0; memory = k .1 };
 }
 
