@@ -1,4 +1,4 @@
-// The public translation: the front end into working memory, then the lent buffers, wholly written by one of two functions.
+// The public translation: the front end into working memory, then the lent buffers, wholly written where the source is accepted, left alone where it is refused.
 use front_analysis::Analysis;
 use front_analysis::analyse;
 use translate_buffers::clear_bytes;
@@ -115,7 +115,7 @@ fn accept_rows(
 }
 
 // A source, a lent table of words and a lent code buffer of bytes. No heap; working arrays of 30 KB, and the stack that the recursion
-// over nested parts takes (docs/BENCHMARKS.md). Nothing is written to the lent buffers before the decision is made.
+// over nested parts takes (docs/BENCHMARKS.md). Nothing is written to the lent buffers unless the source is accepted.
 pub fn translate(source: &[u8], table: &mut [u32], code: &mut [u8]) -> Translation
     ensures { λ r. ⌜ left r (now (table .exit)) (now (code .exit)) ≡ translation (now (source .entry)) (now (table .entry)) (now (code .entry)) ⌝ }
 {

@@ -8,12 +8,12 @@ use tests::{needed_words, proved, second, Translation, Translator, CODE_BYTES, T
 /// Cells on either side of a lent buffer, which a call has to leave alone.
 const MARGIN: usize = 8;
 
-/// The buffers that are lent, and what they held before the call.
+/// The buffers that are lent, and the second translation's, which hold the same before a call.
 struct Lent {
     table: Vec<u32>,
     code: Vec<u8>,
-    table_before: Vec<u32>,
-    code_before: Vec<u8>,
+    second_table: Vec<u32>,
+    second_code: Vec<u8>,
     statuses: [u64; 15],
 }
 
@@ -22,8 +22,8 @@ impl Lent {
         Lent {
             table: vec![0; 2 * TABLE_WORDS],
             code: vec![0; 2 * CODE_BYTES],
-            table_before: vec![0; 2 * TABLE_WORDS],
-            code_before: vec![0; 2 * CODE_BYTES],
+            second_table: vec![0; 2 * TABLE_WORDS],
+            second_code: vec![0; 2 * CODE_BYTES],
             statuses: [0; 15],
         }
     }
@@ -40,11 +40,11 @@ impl Lent {
         let (words, bytes) = sizes;
         let table = &mut self.table[..words + 2 * MARGIN];
         let code = &mut self.code[..bytes + 2 * MARGIN];
-        let table_before = &mut self.table_before[..words + 2 * MARGIN];
-        let code_before = &mut self.code_before[..bytes + 2 * MARGIN];
+        let second_table = &mut self.second_table[..words + 2 * MARGIN];
+        let second_code = &mut self.second_code[..bytes + 2 * MARGIN];
         fill(random, table, code);
-        table_before.copy_from_slice(table);
-        code_before.copy_from_slice(code);
+        second_table.copy_from_slice(table);
+        second_code.copy_from_slice(code);
         let lent = MARGIN..MARGIN + words;
         let lent_bytes = MARGIN..MARGIN + bytes;
         let got = translator(source, &mut table[lent.clone()], &mut code[lent_bytes.clone()]);
@@ -55,13 +55,13 @@ impl Lent {
         let counts = [place, tokens, rows, data, depth].map(|count| count as u32);
         let answer = [got.place, got.tokens, got.rows, got.data, got.depth];
         assert_eq!((got.status, answer), (status, counts), "answer of {}", shown());
-        assert!(table[lent.clone()] == front.lent_table(&table_before[lent.clone()]), "table of {}", shown());
+        assert!(table[lent.clone()] == front.lent_table(&second_table[lent.clone()]), "table of {}", shown());
 
-        // the second translation on the same words and bytes: the margins too are to be as it leaves them
-        let want = second::translate(source, &mut table_before[lent], &mut code_before[lent_bytes]);
+        // the cells around the buffers too are to be as the second translation leaves them
+        let want = second::translate(source, &mut second_table[lent], &mut second_code[lent_bytes]);
         assert_eq!(got, want, "answer of {}", shown());
-        assert!(table == table_before, "table and words around it of {}", shown());
-        assert!(code == code_before, "code buffer and bytes around it of {}", shown());
+        assert!(table == second_table, "table and words around it of {}", shown());
+        assert!(code == second_code, "code buffer and bytes around it of {}", shown());
         self.statuses[status as usize] += 1;
         got
     }
