@@ -1,16 +1,17 @@
--- Demands 3 and 4 at the C boundary: the answer, the 12 words of the state and the words of memory that each exported call leaves, for any list of these calls.
+-- Demand 1's refusals and demands 3 and 4 at the C boundary: the answer's words, the lent buffers, the 12 words of the state and the words of memory that the exported calls leave.
 -- Statement; rests on the exported calls' definitions.
--- `gutilamboy_start`, `gutilamboy_step` and `gutilamboy_run` meet `startCall`, `stepCall` and `runCall` by equation.
+-- `gutilamboy_translate`, `gutilamboy_start`, `gutilamboy_step` and `gutilamboy_run` meet `translateCall`, `startCall`, `stepCall` and `runCall` by equation.
 use mathlib.Core.Path.{_≡_}
 use mathlib.Core.Bool.{true}
 use mathlib.Core.List.{List, [], _∷_}
 use Prim.Native.Nat.{ℕ, _+_, _*_, _≤_, _<_}
 use lib.ListN.{length, getD, take, drop}
 use Rattle.x_program.specs.Tree.{Program}
+use Rattle.x_verdict.specs.Deserved.{FirstDeserved}
 use Rattle.x_meaning.specs.SourceRun.{moves, begin, ends-with}
 use Rattle.translate_rules.specs.ImageCode.{image}
 use Rattle.arm_state.specs.State.{base}
-use Rattle.gutilamboy.specs.Calls.{startLeft, startCall, Left, stepCall, runCall}
+use Rattle.gutilamboy.specs.Calls.{startLeft, startCall, Left, stepCall, runCall, translateLeft, translateCall}
 use Rattle.theorem_simulation.specs.Demand3.{Each, D, N, needs, Lent, Call, step, run, Ended}
 use Rattle.theorem_simulation.specs.Demand4.{Agree, Both}
 use Rattle.theorem_demands.specs.Demands.{Translates}
@@ -70,6 +71,9 @@ pub record SameLeft (p : Program) (a b : Left) : Type 0 where
   pub words : Agree p (a .memory) (b .memory)
 
 pub record Exported : Type 0 where
+  -- what is deserved first is answered, status and place and no counts, and "a refusal changes neither buffer" (request 2026-06)
+  pub one : (source table code : List ℕ) (n p : ℕ) → FirstDeserved source (length table) (length code) n p
+      → translateCall source table code ≡ translateLeft (n ∷ p ∷ 0 ∷ 0 ∷ 0 ∷ 0 ∷ 0 ∷ []) table code
   -- any accepted source, any starting words, needed words <= memory <= 16,384 words, any list of exported calls
   pub three : (source table code : List ℕ) (p : Program) (memory : List ℕ) → Translates source table code p → Lent p memory → AtBoundary p memory
   -- two memories that agree in the D declared words

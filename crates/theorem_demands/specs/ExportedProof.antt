@@ -1,10 +1,11 @@
--- Demands 3 and 4 at the C boundary, proved: an exported call does to the words of a state what the call does to the state. Rests on DemandsProof and on numbers' laws; assumes nothing.
+-- Demand 1's refusals and demands 3 and 4 at the C boundary, proved: an exported call does to the words of a state what the call does to the state. Rests on DemandsProof and on numbers' laws; assumes nothing.
 use mathlib.Core.Path.{_≡_, refl, ap, subst, _∙_}
 use mathlib.Core.List.{List, [], _∷_}
 use Prim.Native.Nat.{ℕ}
 use native.Mathlib.Omega.{arith}
 use lib.ListN.{length}
 use Rattle.x_program.specs.Tree.{Program}
+use Rattle.x_verdict.specs.Deserved.{FirstDeserved}
 use Rattle.translate_rules.specs.ImageCode.{image}
 use Rattle.arm_state.specs.State.{base, freshOf}
 use Rattle.arm_state.specs.declared.Machine.{Machine}
@@ -13,7 +14,7 @@ use Rattle.arm_machine.specs.Iterations.{run-length, run-registers}
 use Rattle.arm_machine.specs.declared.Started.{Started}
 use Rattle.gutilamboy_numbers.specs.Numbers.{stateWords}
 use Rattle.gutilamboy_numbers.specs.NumberLaws.{state-back}
-use Rattle.gutilamboy.specs.Calls.{left, ofStart, runCall}
+use Rattle.gutilamboy.specs.Calls.{left, ofStart, runCall, translateLeft, translateCall}
 use Rattle.theorem_simulation.specs.Demand3.{Each, D, N, Lent, Call, step, run, Called, call, calls, started, Answered, EndsBy, Demand3}
 use Rattle.theorem_simulation.specs.Iterated.{most, call-is-run}
 use Rattle.theorem_simulation.specs.Demand4.{Alike, Both}
@@ -108,9 +109,18 @@ module _ (p : Program) where
         both-left ks _ _ _ _ (call-registers (image p) k w m ∙ r) (call-registers (image p) k v n ∙ q) (s .1),
       )
 
+-- ── demand 1 ──
+
+refusal-left : (source table code : List ℕ) (n p : ℕ) → FirstDeserved source (length table) (length code) n p
+    → translateCall source table code ≡ translateLeft (n ∷ p ∷ 0 ∷ 0 ∷ 0 ∷ 0 ∷ 0 ∷ []) table code
+refusal-left source table code n p f =
+    let r = demands .one .refuses source table code n p f in
+    λ j. translateLeft (r .status j ∷ r .place j ∷ r .no-tokens j ∷ r .no-rows j ∷ r .no-data j ∷ r .no-depth j ∷ r .no-code j ∷ []) (r .table-kept j) (r .code-kept j)
+
 -- THE corollary
 pub exported-demands : Exported
 exported-demands = record {
+  one = refusal-left;
   three = λ source table code p memory t l. at-boundary p memory l (demands .three source table code p memory t l);
   four = λ source table code p memory other t l m a ks.
       let d = demands .three source table code p memory t l in
