@@ -62,8 +62,8 @@ extern "C" {
 #define GUTILAMBOY_SHORT_TABLE 13    /* table shorter than GUTILAMBOY_TABLE_WORDS of the tokens; place 0 */
 #define GUTILAMBOY_SHORT_CODE 14     /* code buffer shorter than GUTILAMBOY_CODE_BYTES of the tokens; place 0 */
 
-/* What a translation answers. Of a refused source all counts are 0: who goes on with the rule before keeps that rule's
- * answer too, and lends each call a structure of its own. */
+/* What a translation answers. Of a refused source all counts are 0: a caller that goes on with the rule before must
+ * keep that rule's answer too, so lend each call a structure of its own (examples/c/pallet.c). */
 struct gutilamboy_translation {
     uint32_t status;
     uint32_t place;  /* of a refusal: a byte of the source, or the source's length */
