@@ -1,5 +1,6 @@
 // Document 01's sources, starred and others, and some near them, from their bytes: status, place, tokens, rows, data words, N and image bytes.
 use libc::STDOUT_FILENO;
+use translate_source::Translation;
 
 fn text(s: &[u8]) {
     io::write_all(STDOUT_FILENO, s);
@@ -10,11 +11,8 @@ fn number(n: u32) {
     io::print_decimal(STDOUT_FILENO, n as u64);
 }
 
-fn case(source: &[u8]) {
-    let mut table = [0u32; 4096];
-    let mut code = [0u8; 49408];
-    let t = translate_source::translate(source, &mut table, &mut code);
-    text(source);
+// Status, place, tokens, rows, data words, N and image bytes.
+fn answer(t: Translation) {
     text(b" ->");
     number(t.status);
     number(t.place);
@@ -23,6 +21,14 @@ fn case(source: &[u8]) {
     number(t.data);
     number(t.depth);
     number(t.code);
+}
+
+fn case(source: &[u8]) {
+    let mut table = [0u32; 4096];
+    let mut code = [0u8; 49408];
+    let t = translate_source::translate(source, &mut table, &mut code);
+    text(source);
+    answer(t);
     text(b"\n");
 }
 
@@ -32,31 +38,17 @@ fn word(words: &[u32], at: usize) {
     }
 }
 
-fn small_number(n: u8) {
+fn byte_number(n: u8) {
     number(n as u32);
 }
 
 fn byte(bytes: &[u8], at: usize) {
     if at < bytes.len() {
-        small_number(bytes[at]);
+        byte_number(bytes[at]);
     }
 }
 
-fn first_row(table: &[u32]) {
-    word(table, 0);
-    word(table, 1);
-    word(table, 2);
-    word(table, 3);
-}
-
-fn first_halfwords(code: &[u8]) {
-    byte(code, 0);
-    byte(code, 1);
-    byte(code, 2);
-    byte(code, 3);
-}
-
-// An update of a rule, into the rule's buffers: status, place, rows and image bytes, then the first row and the first two halfwords there.
+// An update of a rule, into the rule's buffers: the answer, then the first row and the first halfword that stand there.
 fn update(rule: &[u8], source: &[u8]) {
     let mut table = [7u32; 4096];
     let mut code = [7u8; 49408];
@@ -65,14 +57,14 @@ fn update(rule: &[u8], source: &[u8]) {
     text(source);
     text(b" instead of ");
     text(rule);
-    text(b" ->");
-    number(t.status);
-    number(t.place);
-    number(t.rows);
-    number(t.code);
+    answer(t);
     text(b", then");
-    first_row(&table);
-    first_halfwords(&code);
+    word(&table, 0);
+    word(&table, 1);
+    word(&table, 2);
+    word(&table, 3);
+    byte(&code, 0);
+    byte(&code, 1);
     text(b"\n");
 }
 

@@ -12,9 +12,8 @@ use Rattle.text_position.specs.Position.{line-of, column-of, shown-line, caret-
 use Rattle.text_refusal.specs.Refusal.{reason-of}
 use Rattle.text_names.specs.Names.{names-of}
 use Rattle.translate_source.specs.declared.Translation.{Translation}
-use Rattle.x_verdict.specs.Front.{front}
 use Rattle.translate_source.specs.Translate.{answered}
-use Rattle.text_report.specs.Report.{table-words, code-bytes}
+use Rattle.text_report.specs.Report.{with-room}
 
 -- ── an accepted source ──
 
@@ -56,7 +55,7 @@ abbrev pub explained : List ℕ → Translation → List ℕ
 explained source t = pick (eqb (t .status) 0) (accepted-text source t) (refused-text source (t .status) (t .place))
 
 unfoldable pub explain-of : List ℕ → List ℕ
-explain-of source = explained source (answered (front source table-words code-bytes))
+explain-of source = explained source (answered (with-room source))
 
 -- no explanation has more bytes
 abbrev pub explain-limit : ℕ

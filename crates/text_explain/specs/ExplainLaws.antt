@@ -25,9 +25,9 @@ use Rattle.text_names.specs.Names.{names-of}
 use Rattle.text_names.specs.Tokens.{IsAccepted}
 use Rattle.text_names.specs.NamesRoom.{names-fit}
 use Rattle.translate_source.specs.declared.Translation.{Translation}
-use Rattle.translate_source.specs.Translate.{Translated, left, zeros, answered, translated, translation}
-use Rattle.text_report.specs.Report.{table-words, code-bytes}
-use Rattle.text_report.specs.ReportLaws.{into-arrays}
+use Rattle.translate_source.specs.Translate.{Translated, left, zeros, answered, translation}
+use Rattle.text_report.specs.Report.{table-words, code-bytes, with-room}
+use Rattle.text_report.specs.ReportLaws.{in-arrays, into-arrays}
 use Rattle.text_explain.specs.Explain.{sizes, names-head, accepted-text, placeless, place-line, place-text, refused-text, explained, explain-of, explain-limit}
 
 -- data and depth of an accepted program
@@ -61,17 +61,14 @@ small-place source table code n p e =
 -- ── the answer of a translation into arrays of the report's lengths ──
 
 module _ (source table code : List ℕ) (t : Translation) (h : left t table code ≡ translation source (zeros table-words) (zeros code-bytes)) where
-  came-to : left t table code ≡ translated (zeros table-words) (zeros code-bytes) (front source table-words code-bytes)
-  came-to = into-arrays source (left t table code) h
-
   pub explained-is : explained source t ≡ explain-of source
   unfolding explain-of
-  explained-is = ap (λ (x : Translated). explained source (x .answer)) (into-arrays source (left t table code) h)
+  explained-is = ap (λ (x : Translated). explained source (x .answer)) (into-arrays source table code t h)
 
   pub accepted-small : t .status ≡ 0 → Small t × IsAccepted source
-  accepted-small ok = go (front source table-words code-bytes) refl came-to
+  accepted-small ok = go (with-room source) refl (into-arrays source table code t h)
     where
-      go : (o : Outcome) → front source table-words code-bytes ≡ o → left t table code ≡ translated (zeros table-words) (zeros code-bytes) o → Small t × IsAccepted source
+      go : (o : Outcome) → with-room source ≡ o → left t table code ≡ in-arrays o → Small t × IsAccepted source
       go (refused n at) f e = absurd (omega (arith, refusal source table-words code-bytes n at f .low, ok, ap (λ (x : Translated). x .answer .status) e))
       go (accepted n p) f e =
           let s = accepted-sound source table-words code-bytes n p f in (
@@ -83,9 +80,9 @@ module _ (source table code : List ℕ) (t : Translation) (h : left t table code
           )
 
   pub refused-small : t .place ≤ 16384
-  refused-small = go (front source table-words code-bytes) refl came-to
+  refused-small = go (with-room source) refl (into-arrays source table code t h)
     where
-      go : (o : Outcome) → front source table-words code-bytes ≡ o → left t table code ≡ translated (zeros table-words) (zeros code-bytes) o → t .place ≤ 16384
+      go : (o : Outcome) → with-room source ≡ o → left t table code ≡ in-arrays o → t .place ≤ 16384
       go (refused n at) f e = omega (arith, small-place source table-words code-bytes n at f, ap (λ (x : Translated). x .answer .place) e)
       go (accepted n p) f e = omega (arith, ap (λ (x : Translated). x .answer .place) e)
 
@@ -119,7 +116,7 @@ refused-short source n place =
 pub explain-fits : (source : List ℕ) → length (explain-of source) ≤ explain-limit
 unfolding explain-of
 explain-fits source =
-    let t = answered (front source table-words code-bytes) in
+    let t = answered (with-room source) in
     by t (eqb (t .status) 0)
   where
     by : (t : Translation) (b : Bool) → length (pick b (accepted-text source t) (refused-text source (t .status) (t .place))) ≤ explain-limit

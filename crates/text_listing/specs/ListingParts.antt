@@ -10,13 +10,13 @@ use Rattle.x_verdict.specs.Refused.{refusal}
 use Rattle.translate_rules.specs.ImageCode.{image}
 use Rattle.arm_machine.specs.Step.{halfAt}
 use Rattle.translate_source.specs.declared.Translation.{Translation}
-use Rattle.translate_source.specs.Translate.{Translated, left, translated, translation, zeros}
+use Rattle.translate_source.specs.Translate.{Translated, left, translation, zeros}
 use Rattle.translate_source.specs.TranslationRoom.{accepted-fits}
 use Rattle.text_disassembly.specs.Disassembly.{line, size}
 use Rattle.text_disassembly.specs.ImageLines.{text-from}
 use Rattle.text_disassembly.specs.ImageLineLaws.{text-at, text-short}
-use Rattle.text_report.specs.Report.{table-words, code-bytes, answer-lines}
-use Rattle.text_report.specs.ReportLaws.{into-arrays, reported, report-fits}
+use Rattle.text_report.specs.Report.{table-words, code-bytes, with-room, answer-lines}
+use Rattle.text_report.specs.ReportLaws.{in-arrays, into-arrays, reported, report-fits}
 use Rattle.text_buffer.specs.Buffer as buffer
 use Rattle.text_buffer.specs.Buffer.{placed}
 use Rattle.text_buffer.specs.BufferLaws.{then}
@@ -40,15 +40,12 @@ line-put code out out′ at end end′ first second n l h f s e k w =
 -- ── the answer of a translation into arrays of the report's lengths ──
 
 module _ (source table code : List ℕ) (t : Translation) (h : left t table code ≡ translation source (zeros table-words) (zeros code-bytes)) where
-  came-to : left t table code ≡ translated (zeros table-words) (zeros code-bytes) (front source table-words code-bytes)
-  came-to = into-arrays source (left t table code) h
-
   -- a refused source
   pub refused-text : (t .status ≡ 0 → ⊥) → answer-lines t ≡ listing-of source
   unfolding listing-of
-  refused-text bad = go (front source table-words code-bytes) came-to
+  refused-text bad = go (with-room source) (into-arrays source table code t h)
     where
-      go : (o : Outcome) → left t table code ≡ translated (zeros table-words) (zeros code-bytes) o → answer-lines t ≡ listed source o
+      go : (o : Outcome) → left t table code ≡ in-arrays o → answer-lines t ≡ listed source o
       go (refused n at) e = reported source table code t h
       go (accepted n p) e = absurd (bad (ap (λ (x : Translated). x .answer .status) e))
 
@@ -61,9 +58,9 @@ module _ (source table code : List ℕ) (t : Translation) (h : left t table code
 
   pub accepted-text : t .status ≡ 0 → Image
   unfolding listing-of
-  accepted-text ok = go (front source table-words code-bytes) refl came-to
+  accepted-text ok = go (with-room source) refl (into-arrays source table code t h)
     where
-      go : (o : Outcome) → front source table-words code-bytes ≡ o → left t table code ≡ translated (zeros table-words) (zeros code-bytes) o → Image
+      go : (o : Outcome) → with-room source ≡ o → left t table code ≡ in-arrays o → Image
       go (refused n at) f e = absurd (omega (arith, refusal source table-words code-bytes n at f .low, ok, ap (λ (x : Translated). x .answer .status) e))
       go (accepted n p) f e =
           let k : t .code ≡ length (image p) = ap (λ (x : Translated). x .answer .code) e in
@@ -81,9 +78,9 @@ module _ (source table code : List ℕ) (t : Translation) (h : left t table code
 
 pub listing-fits : (source : List ℕ) → length (listing-of source) ≤ listing-limit
 unfolding listing-of
-listing-fits source = go (front source table-words code-bytes) refl
+listing-fits source = go (with-room source) refl
   where
-    go : (o : Outcome) → front source table-words code-bytes ≡ o → length (listed source o) ≤ listing-limit
+    go : (o : Outcome) → with-room source ≡ o → length (listed source o) ≤ listing-limit
     go (refused n at) f = omega (arith, report-fits source)
     go (accepted n p) f =
         let small : length (image p) ≤ 2 * 24704 = accepted-fits source table-words code-bytes n p f .small in

@@ -3,13 +3,13 @@
 use mathlib.Core.Path.{_≡_}
 use mathlib.Core.List.{List}
 use Prim.Native.Nat.{ℕ, _<_}
-use lib.ListN.{length, take}
+use lib.ListN.{length}
 use lib.Dec.{eqb}
 use Rattle.arm_word.specs.Choice.{pick}
 use Rattle.x_tokens.specs.TokenList.{Entry}
 use Rattle.x_grammar.specs.Grammar as grammar
 use Rattle.x_program.specs.Tree.{Program}
-use Rattle.x_program.specs.Rows.{table-of}
+use Rattle.x_program.specs.Rows.{table-of, row-count}
 use Rattle.x_names.specs.Resolve.{resolve}
 use Rattle.x_verdict.specs.Symbols.{text-of}
 use Rattle.x_verdict.specs.IsX.{IsX, Room}
@@ -79,12 +79,13 @@ pub record Translates (source table code : List ℕ) (p : Program) : Type 0 wher
   pub is-X : XAs source (length table) (length code) p
   pub status : translation source table code .answer .status ≡ 0
   pub place : translation source table code .answer .place ≡ 0
-  -- "The source's own numbers are those that start takes, D and N": the answer has them
+  -- the counts: tokens, "comments counted", and rows; "The source's own numbers are those that start takes, D and N"; "code= the image's bytes"
+  pub tokens : translation source table code .answer .tokens ≡ length (is-X .ts)
+  pub rows : translation source table code .answer .rows ≡ row-count p
   pub data-words : translation source table code .answer .«data» ≡ D p
   pub depth : translation source table code .answer .depth ≡ N p
-  -- "the image as code" is the first bytes of the code buffer, as many as the answer says
-  pub image-bytes : take (translation source table code .answer .code) (translation source table code .code) ≡ image p
-  -- "An accepted call zeroes what lies past the table and past the image"
+  pub code-bytes : translation source table code .answer .code ≡ length (image p)
+  -- rows and image stand at the front, and "An accepted call zeroes what lies past the table and past the image"
   pub table-filled : translation source table code .table ≡ filled (length table) (table-of p)
   pub code-filled : translation source table code .code ≡ filled (length code) (image p)
 

@@ -27,7 +27,7 @@ use Rattle.translate_rules.specs.ImageCode.{expression-code, process-code, imag
 use Rattle.translate_source.specs.Translate.{Translated, translation}
 use Rattle.theorem_simulation.specs.Demand3.{Lent, run, call, EndsBy, started, Demand3}
 use Rattle.theorem_demands.specs.Demands.{Translates, update}
-use Rattle.theorem_demands.specs.DemandsProof.{front-translates, demands}
+use Rattle.theorem_demands.specs.DemandsProof.{front-translates, image-at-front, demands}
 
 -- its bytes, the program that they are, buffers that hold old words and bytes, and memory of the 13 needed words
 abbrev source : List ℕ
@@ -45,13 +45,21 @@ code = replicate 640 0xFF
 abbrev memory : List ℕ
 memory = replicate 13 0xFFFFFFFF
 
-accepted-five : front source 32 640 ≡ accepted 8 five
-unfolding front outcome scan lexeme lexemes.named lexemes.number double single symbol one-of digit-value name-character span numeral same reserved first-match automaton.reads automaton.run
-    symbols entry-at unread-place named least lookup
-accepted-five = refl
+-- what the call leaves, and an update into the same buffers, which declares no x
+abbrev yesterday : Translated
+yesterday = translation source table code
+
+abbrev bad : List ℕ
+bad = ascii "x := 1"
+
+worked : (front source 32 640 ≡ accepted 8 five) × (translation bad (yesterday .table) (yesterday .code) .answer .status ≡ 8)
+unfolding translation front outcome scan lexeme lexemes.named lexemes.number double single symbol one-of digit-value name-character span numeral same reserved first-match automaton.reads
+    automaton.run symbols entry-at unread-place named least lookup data-words table-of row-count rows count rows-process count-process declared-rows image image-code process-code
+    expression-code push-constant work-diadic-code assign-variable load-constant bytes bytes-of encoded-bytes encodeOf put
+worked = (refl, refl)
 
 translates-five : Translates source table code five
-translates-five = front-translates source table code 8 five accepted-five
+translates-five = front-translates source table code 8 five (worked .0)
 
 lent-five : Lent five memory
 unfolding data-words
@@ -66,24 +74,10 @@ pub ends-five : (l : ℕ) × ((limit : ℕ) → l ≤ limit → EndsBy five 0 (5
 unfolding data-words
 ends-five = demand-five .ends 7 0 refl
 
--- ── request 2026-06: an update is refused, and yesterday's rule goes on ──
-
-abbrev yesterday : Translated
-yesterday = translation source table code
-
--- it declares no x
-abbrev bad : List ℕ
-bad = ascii "x := 1"
-
-refused-bad : translation bad (yesterday .table) (yesterday .code) .answer .status ≡ 8
-unfolding translation front outcome scan lexeme lexemes.named lexemes.number double single symbol one-of digit-value name-character span numeral same reserved first-match automaton.reads
-    automaton.run symbols entry-at unread-place named least lookup data-words table-of row-count rows count rows-process count-process declared-rows image image-code process-code
-    expression-code push-constant work-diadic-code assign-variable load-constant bytes bytes-of encoded-bytes encodeOf put
-refused-bad = refl
-
+-- request 2026-06: the update is refused, and yesterday's rule goes on
 pub five-goes-on : update yesterday bad ≡ yesterday
-five-goes-on = demands .one .goes-on yesterday bad (omega (arith, refused-bad))
+five-goes-on = demands .one .goes-on yesterday bad (omega (arith, worked .1))
 
 -- so the code still is the image that demands 3 and 4 speak of
 pub still-five : take (update yesterday bad .answer .code) (update yesterday bad .code) ≡ image five
-still-five = ap (λ (t : Translated). take (t .answer .code) (t .code)) five-goes-on ∙ translates-five .image-bytes
+still-five = ap (λ (t : Translated). take (t .answer .code) (t .code)) five-goes-on ∙ image-at-front source table code five translates-five

@@ -1,7 +1,7 @@
 -- The four demands proved from the layers' theorems. Assumes nothing.
 use mathlib.Core.Path.{_≡_, refl, sym, ap, subst, _∙_}
 use mathlib.Core.Bool.{false}
-use mathlib.Core.List.{List, _++_}
+use mathlib.Core.List.{List}
 use Prim.Native.Nat.{ℕ, _-_, _≤_, _<_}
 use native.Mathlib.Omega.{arith}
 use lib.ListN.{length, take}
@@ -91,29 +91,28 @@ demand1 = record {
 
 -- ── demand 2 ──
 
-taken : (xs ys : List ℕ) → take (length xs) (xs ++ ys) ≡ xs
-taken xs ys = take-at xs ys (length xs) refl
-
 -- what the front end accepts is translated
-module _ (source table code : List ℕ) (n : ℕ) (p : Program) (e : front source (length table) (length code) ≡ accepted n p) where
-  is-X : XAs source (length table) (length code) p
-  is-X =
-      let a = exact.accepted-is-X source (length table) (length code) n p e in
-      record { ts = a .ts; tree = a .tree; is-X = a .is-X; room = a .room; resolved = a .program }
+pub front-translates : (source table code : List ℕ) (n : ℕ) (p : Program) → front source (length table) (length code) ≡ accepted n p → Translates source table code p
+unfolding translation
+front-translates source table code n p e =
+    let a = exact.accepted-is-X source (length table) (length code) n p e in
+    record {
+      is-X = record { ts = a .ts; tree = a .tree; is-X = a .is-X; room = a .room; resolved = a .program };
+      status = ap (λ (o : Outcome). answered o .status) e;
+      place = ap (λ (o : Outcome). answered o .place) e;
+      tokens = ap (λ (o : Outcome). answered o .tokens) e ∙ a .count;
+      rows = ap (λ (o : Outcome). answered o .rows) e;
+      data-words = ap (λ (o : Outcome). answered o .«data») e;
+      depth = ap (λ (o : Outcome). answered o .depth) e;
+      code-bytes = ap (λ (o : Outcome). answered o .code) e;
+      table-filled = ap (kept-or-filled table table-of) e;
+      code-filled = ap (kept-or-filled code image) e;
+    }
 
-  pub front-translates : Translates source table code p
-  unfolding translation
-  front-translates =
-      record {
-        is-X = is-X;
-        status = ap (λ (o : Outcome). answered o .status) e;
-        place = ap (λ (o : Outcome). answered o .place) e;
-        data-words = ap (λ (o : Outcome). answered o .«data») e;
-        depth = ap (λ (o : Outcome). answered o .depth) e;
-        image-bytes = ap (λ (o : Outcome). take (answered o .code) (kept-or-filled code image o)) e ∙ taken (image p) (zeros (length code - length (image p)));
-        table-filled = ap (kept-or-filled table table-of) e;
-        code-filled = ap (kept-or-filled code image) e;
-      }
+-- "the image as code": the first bytes of the code buffer, as many as the answer says
+pub image-at-front : (source table code : List ℕ) (p : Program) → Translates source table code p
+    → take (translation source table code .answer .code) (translation source table code .code) ≡ image p
+image-at-front source table code p t = rw (t .code-bytes, t .code-filled) (take-at (image p) (zeros (length code - length (image p))) (length (image p)) refl)
 
 -- what is X is accepted by the front end
 front-accepts : (source : List ℕ) (table code : ℕ) (p : Program) (x : XAs source table code p) → front source table code ≡ accepted (length (x .ts)) p

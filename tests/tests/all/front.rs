@@ -164,42 +164,38 @@ fn the_second_translation_passes() {
 /// leaves the rest of the table or the last byte of code, a count too many.
 #[test]
 fn wrong_translations_are_noticed() {
-    fn refuses(_: &[u8], _: &mut [u32], _: &mut [u8]) -> Translation {
-        Translation { status: 1, ..Translation::default() }
-    }
-    fn zeroes_table(source: &[u8], table: &mut [u32], code: &mut [u8]) -> Translation {
+    let refuses: Translator = |_, _, _| Translation { status: 1, ..Translation::default() };
+    let counts: Translator = |source, table, code| {
         let got = second::translate(source, table, code);
-        if got.status != 0 {
-            table.fill(0);
-        }
-        got
-    }
-    fn zeroes_byte(source: &[u8], table: &mut [u32], code: &mut [u8]) -> Translation {
-        let got = second::translate(source, table, code);
-        if got.status != 0 {
-            code[0] = 0;
-        }
-        got
-    }
-    fn leaves_byte(source: &[u8], table: &mut [u32], code: &mut [u8]) -> Translation {
+        Translation { tokens: got.tokens + 1, ..got }
+    };
+    let leaves_byte: Translator = |source, table, code| {
         let rest = *code.last().unwrap();
         let got = second::translate(source, table, code);
-        if got.status == 0 {
-            *code.last_mut().unwrap() = rest;
-        }
+        *code.last_mut().unwrap() = rest;
         got
-    }
-    fn leaves_rows(source: &[u8], table: &mut [u32], code: &mut [u8]) -> Translation {
+    };
+    let leaves_rows: Translator = |source, table, code| {
         let before = table.to_vec();
         let got = second::translate(source, table, code);
         let end = 4 * got.rows as usize;
         table[end..].copy_from_slice(&before[end..]);
         got
-    }
-    fn counts(source: &[u8], table: &mut [u32], code: &mut [u8]) -> Translation {
+    };
+    let zeroes_table: Translator = |source, table, code| {
         let got = second::translate(source, table, code);
-        Translation { tokens: got.tokens + 1, ..got }
-    }
+        if got.status != 0 {
+            table.fill(0);
+        }
+        got
+    };
+    let zeroes_byte: Translator = |source, table, code| {
+        let got = second::translate(source, table, code);
+        if got.status != 0 {
+            code[0] = 0;
+        }
+        got
+    };
     let noticed = |wrong: Translator, source: &str| {
         let compare = || Lent::new().compare(wrong, &mut Random::new(1), source.as_bytes(), (40, 800));
         std::panic::catch_unwind(compare).is_err()
