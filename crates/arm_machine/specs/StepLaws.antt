@@ -16,8 +16,7 @@ use Rattle.arm_encoding.specs.Encoding.{decodeOf}
 use Rattle.arm_encoding.specs.declared.Decoded.{Decoded}
 use Rattle.arm_encoding.specs.declared.Decoded.the-variants.{Known, Unknown}
 use Rattle.arm_state.specs.Effects.{after, Effect, done, fault, stops}
-use Rattle.arm_state.specs.State.{reg}
-use Rattle.arm_state.specs.Outcome.{Outcome, completed, loaded-word, stored-word, ended-by, faulted, takes-registers, next-registers, execute-outcome}
+use Rattle.arm_state.specs.Outcome.{Outcome, completed, loaded-word, stored-word, ended-by, faulted, execute-outcome}
 use Rattle.arm_state.specs.declared.Machine.{Machine}
 use Rattle.arm_machine.specs.declared.Fetched.{Fetched}
 use Rattle.arm_machine.specs.declared.Fetched.the-variants.{Halves, Outside}
@@ -31,11 +30,11 @@ once-outcome c w m = got (fetchOf c (m .pc))
   where
     known : (d : Decoded) → Outcome w m (decoded c w m d)
     known (Known i) = execute-outcome c w m i
-    known Unknown = faulted 22 (lit< tt)
+    known Unknown = faulted 22 0 (lit< tt)
 
     got : (f : Fetched) → Outcome w m (fetched c w m f)
     got (Halves h k) = known (decodeOf h k)
-    got Outside = faulted 21 (lit< tt)
+    got Outside = faulted 21 0 (lit< tt)
 
 -- a refusal is 0, 31 or 32
 pub refusal-large : (c w : List ℕ) → eqb (refusalOf c w) 0 ≡ false → 1 < refusalOf c w
@@ -50,17 +49,17 @@ unfolding stepOf
 step-outcome c w m =
     by-test (λ t. Outcome w m (pick t (onceOf c w m) (stops w (fault m (refusalOf c w))))) (eqb (refusalOf c w) 0)
     (λ _. once-outcome c w m)
-    (λ e. faulted (refusalOf c w) (refusal-large c w e))
+    (λ e. faulted (refusalOf c w) 0 (refusal-large c w e))
 
 -- ── "An instruction that faults changes no register and no word"; "SVC keeps pc"; refusals hand back their state ──
 
 -- every status but 0 keeps the state, the words, and lists no access
 kept : {w : List ℕ} {m : Machine} {e : Effect} → Outcome w m e → 0 < e .after .state .status → (e .after .state .machine ≡ m) × (e .after .words ≡ w) × (e .access ≡ [])
 kept (completed m′ r) h = absurd (omega arith)
-kept (loaded-word d k l) h = absurd (omega arith)
-kept (stored-word d k l) h = absurd (omega arith)
+kept (loaded-word m′ k r l) h = absurd (omega arith)
+kept (stored-word m′ k v r l) h = absurd (omega arith)
 kept (ended-by u) h = (refl, refl, refl)
-kept (faulted f l) h = (refl, refl, refl)
+kept (faulted f n l) h = (refl, refl, refl)
 
 pub step-kept : (c w : List ℕ) (m : Machine) → 0 < stepOf c w m .after .state .status → (stepOf c w m .after .state .machine ≡ m) × (stepOf c w m .after .words ≡ w) × (stepOf c w m .access ≡ [])
 step-kept c w m = kept (step-outcome c w m)
@@ -71,19 +70,19 @@ once-done c w m = go (once-outcome c w m)
   where
     go : {e : Effect} → Outcome w m e → e .after .state .status ≡ 0 → e .after .state ≡ done (e .after .state .machine)
     go (completed m′ r) z = refl
-    go (loaded-word d k l) z = refl
-    go (stored-word d k l) z = refl
+    go (loaded-word m′ k r l) z = refl
+    go (stored-word m′ k v r l) z = refl
     go (ended-by u) z = absurd (omega arith)
-    go (faulted f l) z = absurd (omega arith)
+    go (faulted f n l) z = absurd (omega arith)
 
 -- ── the registers ──
 
 registers-kept : {w : List ℕ} {m : Machine} {e : Effect} → Outcome w m e → length (e .after .state .machine .regs) ≡ length (m .regs)
 registers-kept (completed m′ r) = r
-registers-kept {w} {m} (loaded-word d k l) = takes-registers m d (getD w k 0)
-registers-kept {w} {m} (stored-word d k l) = next-registers m
+registers-kept (loaded-word m′ k r l) = r
+registers-kept (stored-word m′ k v r l) = r
 registers-kept (ended-by u) = refl
-registers-kept (faulted f l) = refl
+registers-kept (faulted f n l) = refl
 
 -- an instruction leaves as many registers as there were
 pub once-registers : (c w : List ℕ) (m : Machine) → length (onceOf c w m .after .state .machine .regs) ≡ length (m .regs)
@@ -93,10 +92,10 @@ once-registers c w m = registers-kept (once-outcome c w m)
 
 length-kept : {w : List ℕ} {m : Machine} {e : Effect} → Outcome w m e → length (e .after .words) ≡ length w
 length-kept (completed m′ r) = refl
-length-kept (loaded-word d k l) = refl
-length-kept {w} {m} (stored-word d k l) = length-set w k (reg m d)
+length-kept (loaded-word m′ k r l) = refl
+length-kept {w} (stored-word m′ k v r l) = length-set w k v
 length-kept (ended-by u) = refl
-length-kept (faulted f l) = refl
+length-kept (faulted f n l) = refl
 
 pub once-length : (c w : List ℕ) (m : Machine) → length (onceOf c w m .after .words) ≡ length w
 once-length c w m = length-kept (once-outcome c w m)
@@ -120,10 +119,10 @@ pub record Touches (w : List ℕ) (e : Effect) : Type 0 where
 touches : {w : List ℕ} {m : Machine} {e : Effect} → Outcome w m e → Touches w e
 unfolding written
 touches (completed m′ r) = record { words = refl; few = lit< tt; listed = tt }
-touches {w} (loaded-word d k l) = record { words = sym (set-getD w k 0); few = lit< tt; listed = (l, refl, tt) }
-touches (stored-word d k l) = record { words = refl; few = lit< tt; listed = (l, refl, tt) }
+touches {w} (loaded-word m′ k r l) = record { words = sym (set-getD w k 0); few = lit< tt; listed = (l, refl, tt) }
+touches (stored-word m′ k v r l) = record { words = refl; few = lit< tt; listed = (l, refl, tt) }
 touches (ended-by u) = record { words = refl; few = lit< tt; listed = tt }
-touches (faulted f l) = record { words = refl; few = lit< tt; listed = tt }
+touches (faulted f n l) = record { words = refl; few = lit< tt; listed = tt }
 
 pub step-touches : (c w : List ℕ) (m : Machine) → Touches w (stepOf c w m)
 step-touches c w m = touches (step-outcome c w m)
@@ -132,13 +131,13 @@ step-touches c w m = touches (step-outcome c w m)
 one-word : {w : List ℕ} {m : Machine} {e : Effect} → Outcome w m e → (k : ℕ)
     → (getD (e .after .words) k 0 ≡ getD w k 0) ⊎ ((k < length w) × (e .access ≡ stored k (getD w k 0) (getD (e .after .words) k 0) ∷ []))
 one-word (completed m′ r) k = inl refl
-one-word (loaded-word d j l) k = inl refl
-one-word {w} {m} (stored-word d j l) k =
-    by-test (λ _. (getD (set w j (reg m d)) k 0 ≡ getD w k 0) ⊎ ((k < length w) × (stored j (getD w j 0) (reg m d) ∷ [] ≡ stored k (getD w k 0) (getD (set w j (reg m d)) k 0) ∷ []))) (eqb k j)
-    (λ e. let k≡ = eqb-true k j e in inr (rw k≡ l, rw (k≡, getD-set-same w j (reg m d) 0 l)))
-    (λ e. inl (getD-set-other w j k (reg m d) 0 (eqb-false k j e)))
+one-word (loaded-word m′ j r l) k = inl refl
+one-word {w} (stored-word m′ j v r l) k =
+    by-test (λ _. (getD (set w j v) k 0 ≡ getD w k 0) ⊎ ((k < length w) × (stored j (getD w j 0) v ∷ [] ≡ stored k (getD w k 0) (getD (set w j v) k 0) ∷ []))) (eqb k j)
+    (λ e. let k≡ = eqb-true k j e in inr (rw k≡ l, rw (k≡, getD-set-same w j v 0 l)))
+    (λ e. inl (getD-set-other w j k v 0 (eqb-false k j e)))
 one-word (ended-by u) k = inl refl
-one-word (faulted f l) k = inl refl
+one-word (faulted f n l) k = inl refl
 
 pub step-one-word : (c w : List ℕ) (m : Machine) (k : ℕ)
     → (getD (stepOf c w m .after .words) k 0 ≡ getD w k 0) ⊎ ((k < length w) × (stepOf c w m .access ≡ stored k (getD w k 0) (getD (stepOf c w m .after .words) k 0) ∷ []))

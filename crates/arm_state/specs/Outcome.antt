@@ -13,7 +13,7 @@ use Rattle.arm_encoding.specs.declared.Instr.the-variants.{Shli, Shri, Ashri, A
 use Rattle.arm_encoding.specs.declared.Instr.the-variants.{Mvnr, Str, Ldr}
 use Rattle.arm_encoding.specs.declared.Instr.the-variants.{Stri, Ldri, Incsp, Decsp, Svc, Beq, Bne, Bge, Blt, Bu, Bl}
 use Rattle.arm_state.specs.State.{reg, next, takes, result, moves, jump, branch, link}
-use Rattle.arm_state.specs.Effects.{after, Effect, done, ended, fault, goes, stops, alignedOf, slotOf, codeWord, loadSlot, loadAt, load, storeSlot, storeAt, store, executeOf}
+use Rattle.arm_state.specs.Effects.{after, Effect, done, ended, goes, stops, alignedOf, slotOf, codeWord, loadSlot, loadAt, load, storeSlot, storeAt, store, executeOf}
 use Rattle.arm_state.specs.Lookup.{slot-lt}
 use Rattle.arm_state.specs.declared.Machine.{Machine}
 use Rattle.arm_state.specs.declared.Aligned.{Aligned}
@@ -21,21 +21,22 @@ use Rattle.arm_state.specs.declared.Aligned.the-variants.{Address, Not}
 use Rattle.arm_state.specs.declared.Slot.{Slot}
 use Rattle.arm_state.specs.declared.Slot.the-variants.{At, Nowhere}
 
--- from words w and state m: a new state alone; a word loaded; a word stored; an SVC; a fault or refusal, by its number
+-- from words w and state m: a new state alone; a word loaded, and one stored, with a new state; an SVC; a fault or refusal, by its number
 pub data Outcome (w : List ℕ) (m : Machine) : Effect → Type 0 where
   completed : (m′ : Machine) → length (m′ .regs) ≡ length (m .regs) → Outcome w m (goes w m′)
-  loaded-word : (d k : ℕ) → k < length w → Outcome w m (record { after = after (done (takes m d (getD w k 0))) w; access = loaded k (getD w k 0) ∷ [] })
-  stored-word : (d k : ℕ) → k < length w → Outcome w m (record { after = after (done (next m)) (set w k (reg m d)); access = stored k (getD w k 0) (reg m d) ∷ [] })
+  loaded-word : (m′ : Machine) (k : ℕ) → length (m′ .regs) ≡ length (m .regs) → k < length w → Outcome w m (record { after = after (done m′) w; access = loaded k (getD w k 0) ∷ [] })
+  stored-word : (m′ : Machine) (k v : ℕ) → length (m′ .regs) ≡ length (m .regs) → k < length w
+      → Outcome w m (record { after = after (done m′) (set w k v); access = stored k (getD w k 0) v ∷ [] })
   ended-by : (u : ℕ) → Outcome w m (stops w (ended m u))
-  faulted : (f : ℕ) → 1 < f → Outcome w m (stops w (fault m f))
+  faulted : (f n : ℕ) → 1 < f → Outcome w m (stops w (record { machine = m; status = f; number = n }))
 
 -- ── every change keeps the number of registers ──
 
-pub takes-registers : (m : Machine) (d v : ℕ) → length (takes m d v .regs) ≡ length (m .regs)
+takes-registers : (m : Machine) (d v : ℕ) → length (takes m d v .regs) ≡ length (m .regs)
 unfolding takes
 takes-registers m d v = length-set (m .regs) d v
 
-pub next-registers : (m : Machine) → length (next m .regs) ≡ length (m .regs)
+next-registers : (m : Machine) → length (next m .regs) ≡ length (m .regs)
 unfolding next
 next-registers m = refl
 
@@ -67,27 +68,27 @@ unfolding load
 load-outcome c w m d a = at (alignedOf a)
   where
     in-data : (s : Slot) → ((k : ℕ) → s ≡ At k → k < length w) → Outcome w m (loadSlot w m d s)
-    in-data (At k) lt = loaded-word d k (lt k refl)
-    in-data Nowhere lt = faulted 24 (lit< tt)
+    in-data (At k) lt = loaded-word (takes m d (getD w k 0)) k (takes-registers m d (getD w k 0)) (lt k refl)
+    in-data Nowhere lt = faulted 24 0 (lit< tt)
 
     at : (x : Aligned) → Outcome w m (loadAt c w m d x)
     at (Address b) =
         by-test (λ t. Outcome w m (pick t (goes w (takes m d (codeWord c b))) (loadSlot w m d (slotOf b (length w))))) (leb (b + 4) (length c))
         (λ _. completed _ (takes-registers m d _))
         (λ _. in-data (slotOf b (length w)) (slot-lt b (length w)))
-    at Not = faulted 23 (lit< tt)
+    at Not = faulted 23 0 (lit< tt)
 
 store-outcome : (w : List ℕ) (m : Machine) (d a : ℕ) → Outcome w m (store w m d a)
 unfolding store
 store-outcome w m d a = at (alignedOf a)
   where
     in-data : (s : Slot) → ((k : ℕ) → s ≡ At k → k < length w) → Outcome w m (storeSlot w m d s)
-    in-data (At k) lt = stored-word d k (lt k refl)
-    in-data Nowhere lt = faulted 24 (lit< tt)
+    in-data (At k) lt = stored-word (next m) k (reg m d) (next-registers m) (lt k refl)
+    in-data Nowhere lt = faulted 24 0 (lit< tt)
 
     at : (x : Aligned) → Outcome w m (storeAt w m d x)
     at (Address b) = in-data (slotOf b (length w)) (slot-lt b (length w))
-    at Not = faulted 23 (lit< tt)
+    at Not = faulted 23 0 (lit< tt)
 
 pub execute-outcome : (c w : List ℕ) (m : Machine) (i : Instr) → Outcome w m (executeOf c w m i)
 unfolding executeOf
