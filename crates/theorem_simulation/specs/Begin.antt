@@ -18,7 +18,7 @@ use Rattle.arm_state.specs.State.{base, needed, freshOf}
 use Rattle.arm_machine.specs.Placed.{once-in}
 use Rattle.x_program.specs.Sound.{Sound}
 use Rattle.x_program.specs.SoundTree.{sound-resolved}
-use Rattle.theorem_simulation.specs.Abstract.{registers, Abstract, machine, width}
+use Rattle.theorem_simulation.specs.Abstract.{registers, Control, Abstract, machine, width}
 use Rattle.theorem_simulation.specs.Straight.{At, nil, _▸_, Holds, head-at, first-at, rest-at, address}
 use Rattle.theorem_simulation.specs.Places.{width-bytes, width-even}
 use Rattle.theorem_simulation.specs.Relation.{Setting, Limits, there, Related}
@@ -81,9 +81,12 @@ setting p = record { declarations = p .declarations; code = image p; stack = 2 *
 abbrev pub first-point : Program → List ℕ → Point
 first-point p memory = record { state = freshOf (D p) (N p); words = memory; trace = [] }
 
+abbrev first-control : Control
+first-control = record { tested = 0; link = 0 }
+
 -- the abstract machine at first, by the declared words: all that it knows of memory
 abbrev pub abstract-of : Program → List ℕ → Abstract
-abstract-of p d = machine 0 (registers 0 0 0 0) (address (D p + (2 * N p + 8))) 0 (blank d (2 * N p + 8)) []
+abstract-of p d = machine 0 (registers 0 0 0 0) (address (D p + (2 * N p + 8))) first-control (blank d (2 * N p + 8)) []
 
 module _ (p : Program) (sound : Sound p) (short : length (image p) ≤ 65536) (memory : List ℕ) (lent : Lent p memory) where
   pub limits : Limits (setting p)
@@ -113,7 +116,7 @@ module _ (p : Program) (sound : Sound p) (short : length (image p) ≤ 65536) (m
     r2 = 0;
     r3 = 0;
     k = D p + (2 * N p + 8);
-    rs = 0;
+    control = first-control;
     mem = first-memory;
     source = refl;
     target = refl;
@@ -137,7 +140,6 @@ module _ (p : Program) (sound : Sound p) (short : length (image p) ≤ 65536) (m
   pub first-matches : Matches (setting p) memory (abstract-of p (take (D p) memory)) (first-point p memory)
   unfolding freshOf address
   first-matches = record {
-    lr = 0;
     is = ap (λ (sp : ℕ). record { regs = registers 0 0 0 0; sp = sp; lr = 0; pc = 0; rs = 0 }) sp-is;
     trace = refl;
     agrees = record {

@@ -11,7 +11,7 @@ use Rattle.x_program.specs.Tree.{Expression, constant, variable, element, monad
 use Rattle.x_program.specs.Resolved.{past-data}
 use Rattle.x_meaning.specs.SourceRun.{Item, evaluate, work₁, work₂, check, load, execute, set-variable, store, choose, repeat, in-order, End, going, finish, stopped, bad-subscript, State}
 use Rattle.x_meaning.specs.SourceRun.{state, move, moves}
-use Rattle.theorem_simulation.specs.Abstract.{registers, Abstract, machine}
+use Rattle.theorem_simulation.specs.Abstract.{registers, Control, Abstract, machine}
 use Rattle.theorem_simulation.specs.Straight.{Path, advance, address}
 use Rattle.theorem_simulation.specs.Relation.{Setting, data-of, array-of, Limits, Fits, item-code, Continues, Place, Memory, Related, Good}
 
@@ -79,19 +79,19 @@ pub record Block (E : Setting) (s : State) (m : Abstract) : Type 0 where
   pub falls : n ≡ 0 → state-size (move s) < state-size s
 
 -- the claim for a thing to do x with the operand stack p, c being to do after it
-abbrev pub Claim : Setting → List ℕ → List Access → List Item → ℕ → ℕ → ℕ → ℕ → ℕ → ℕ → ℕ → List (Option ℕ) → Item → List ℕ → Type 0
-Claim E d t c pc a b g r3 k rs mem x p =
+abbrev pub Claim : Setting → List ℕ → List Access → List Item → ℕ → ℕ → ℕ → ℕ → ℕ → ℕ → Control → List (Option ℕ) → Item → List ℕ → Type 0
+Claim E d t c pc a b g r3 k ct mem x p =
     Continues (E .code) c (advance (item-code x) pc) → Fits E (x ∷ c) p → Memory E d p k mem
-    → Block E (state d t (x ∷ c) p going) (machine pc (registers a b g r3) (address k) rs mem t)
+    → Block E (state d t (x ∷ c) p going) (machine pc (registers a b g r3) (address k) ct mem t)
 
 -- ── what the block lemmas share ──
 
 module _ {E : Setting} (ok : Limits E) where
   -- the relation, from its two parts that say something
-  pub relate : {d : List ℕ} {t : List Access} {c : List Item} {p : List ℕ} {e : End} {pc a b g r3 rs : ℕ} {mem : List (Option ℕ)} (k : ℕ)
-      → Place E e c p pc → Memory E d p k mem → Related E (state d t c p e) (machine pc (registers a b g r3) (address k) rs mem t)
-  relate {d} {t} {c} {p} {e} {pc} {a} {b} {g} {r3} {rs} {mem} k place memory = record
-      { d = d; t = t; c = c; p = p; e = e; pc = pc; r0 = a; r1 = b; r2 = g; r3 = r3; k = k; rs = rs; mem = mem; source = refl; target = refl; place = place; memory = memory }
+  pub relate : {d : List ℕ} {t : List Access} {c : List Item} {p : List ℕ} {e : End} {pc a b g r3 : ℕ} {ct : Control} {mem : List (Option ℕ)} (k : ℕ)
+      → Place E e c p pc → Memory E d p k mem → Related E (state d t c p e) (machine pc (registers a b g r3) (address k) ct mem t)
+  relate {d} {t} {c} {p} {e} {pc} {a} {b} {g} {r3} {ct} {mem} k place memory = record
+      { d = d; t = t; c = c; p = p; e = e; pc = pc; r0 = a; r1 = b; r2 = g; r3 = r3; k = k; control = ct; mem = mem; source = refl; target = refl; place = place; memory = memory }
 
   pub good : {s : State} {l : List Access} {mem : List (Option ℕ)} (k j : ℕ) → l ≡ moves j s .trace → ((i : ℕ) → i < data-of E → getD mem i none ≡ some (getD (moves j s .words) i 0))
       → data-of E ≤ k → k ≤ data-of E + E .stack → Good E s (address k) mem l

@@ -23,11 +23,11 @@ use Rattle.arm_state.specs.Effects.{Effect, done, after, slotOf, executeOf}
 use Rattle.arm_state.specs.declared.Machine.{Machine}
 use Rattle.arm_machine.specs.Trace.{listed}
 use Rattle.theorem_simulation.specs.Demand3.{Each}
-use Rattle.theorem_simulation.specs.Abstract.{get, Abstract, machine, memory-of, trace-of, word-at, with-word, old-word, note, target, performs}
+use Rattle.theorem_simulation.specs.Abstract.{get, Control, Abstract, machine, memory-of, trace-of, word-at, with-word, old-word, note, target, performs}
 
--- the machine's state of an abstract one, which has no lr
-abbrev pub concrete : Abstract → ℕ → Machine
-concrete (machine pc r sp rs m l) lr = record { regs = r; sp = sp; lr = lr; pc = pc; rs = rs }
+-- the machine's state of an abstract one
+abbrev pub concrete : Abstract → Machine
+concrete (machine pc r sp ct m l) = record { regs = r; sp = sp; lr = ct .link; pc = pc; rs = ct .tested }
 
 -- words w agree with the memory m where it is known, and past it with the words that there were at first
 pub record Agrees (first : List ℕ) (m : List (Option ℕ)) (w : List ℕ) : Type 0 where
@@ -42,9 +42,8 @@ Within n = Each (λ a. a .offset < n)
 
 -- an effect that takes the machine to what the abstract machine with n words came to, m, from the trace l
 pub record Follows (array : ℕ → Bool) (first : List ℕ) (n : ℕ) (l : List Access) (m : Abstract) (o : Effect) : Type 0 where
-  pub lr : ℕ
   pub words : List ℕ
-  pub is : o .after ≡ after (done (concrete m lr)) words
+  pub is : o .after ≡ after (done (concrete m)) words
   pub agrees : Agrees first (memory-of m) words
   pub trace : l ++ listed array (o .access) ≡ trace-of m
   pub size : length (memory-of m) ≡ n
@@ -115,102 +114,102 @@ next-pc pc h = omega arith
 
 module _ (array : ℕ → Bool) (first c : List ℕ) (short : length c ≤ 65536) where
   -- no access: the state alone
-  keeps : (s z : Abstract) (w : List ℕ) (lr : ℕ) (l : List Access) {o : Effect} → Agrees first (memory-of s) w → some s ≡ some z → l ≡ trace-of s → o ≡ real.goes w (concrete s lr)
+  keeps : (s z : Abstract) (w : List ℕ) (l : List Access) {o : Effect} → Agrees first (memory-of s) w → some s ≡ some z → l ≡ trace-of s → o ≡ real.goes w (concrete s)
       → Follows array first (length (memory-of s)) l z o
   unfolding listed
-  keeps s z w lr l a e t h =
+  keeps s z w l a e t h =
       let x : s ≡ z = cc in
-      rw (← x, h) (record { lr = lr; words = w; is = refl; agrees = a; trace = append-nil l ∙ t; size = refl; within = tt })
+      rw (← x, h) (record { words = w; is = refl; agrees = a; trace = append-nil l ∙ t; size = refl; within = tt })
 
-  module _ (pc : ℕ) (r : List ℕ) (sp rs : ℕ) (m : List (Option ℕ)) (l : List Access) (z : Abstract) (w : List ℕ) (lr : ℕ) (a : Agrees first m w) (p : pc ≤ 65536) where
+  module _ (pc : ℕ) (r : List ℕ) (sp : ℕ) (ct : Control) (m : List (Option ℕ)) (l : List Access) (z : Abstract) (w : List ℕ) (a : Agrees first m w) (p : pc ≤ 65536) where
     abbrev now : Abstract
-    now = machine pc r sp rs m l
+    now = machine pc r sp ct m l
 
-    load-follows : (d ad : ℕ) → with-word (word-at (length m) ad) (λ k. with-word (getD m k none) (λ v. some (machine (pc + 2) (set r d v) sp rs m (note (array k) l (loaded k v))))) ≡ some z
-        → Follows array first (length m) l z (real.load c w (concrete now lr) d ad)
+    load-follows : (d ad : ℕ) → with-word (word-at (length m) ad) (λ k. with-word (getD m k none) (λ v. some (machine (pc + 2) (set r d v) sp ct m (note (array k) l (loaded k v))))) ≡ some z
+        → Follows array first (length m) l z (real.load c w (concrete now) d ad)
     unfolding real.load takes slotOf
     load-follows d ad e = by (word-at (length m) ad) refl e
       where
-        known : (k : ℕ) (u : Option ℕ) → getD m k none ≡ u → Reaches (length m) ad k → with-word u (λ v. some (machine (pc + 2) (set r d v) sp rs m (note (array k) l (loaded k v)))) ≡ some z
-            → Follows array first (length m) l z (real.load c w (concrete now lr) d ad)
+        known : (k : ℕ) (u : Option ℕ) → getD m k none ≡ u → Reaches (length m) ad k → with-word u (λ v. some (machine (pc + 2) (set r d v) sp ct m (note (array k) l (loaded k v)))) ≡ some z
+            → Follows array first (length m) l z (real.load c w (concrete now) d ad)
         known k none h o e = let x : _≡_ {A = ℕ} 0 1 = cc (e) in absurd (omega arith)
         known k (some v) h o e =
-            let x : machine (pc + 2) (set r d v) sp rs m (note (array k) l (loaded k v)) ≡ z = cc in
+            let x : machine (pc + 2) (set r d v) sp ct m (note (array k) l (loaded k v)) ≡ z = cc in
             rw (← x, o .aligned, past-code o (length c) short, o .low, in-words o (length w) (a .enough), o .word, a .same k v h, next-pc pc p)
-            (record { lr = lr; words = w; is = refl; agrees = a; trace = listed-one array l (loaded k v); size = refl; within = (below o, tt) })
+            (record { words = w; is = refl; agrees = a; trace = listed-one array l (loaded k v); size = refl; within = (below o, tt) })
 
-        by : (x : Option ℕ) → word-at (length m) ad ≡ x → with-word x (λ k. with-word (getD m k none) (λ v. some (machine (pc + 2) (set r d v) sp rs m (note (array k) l (loaded k v))))) ≡ some z
-            → Follows array first (length m) l z (real.load c w (concrete now lr) d ad)
+        by : (x : Option ℕ) → word-at (length m) ad ≡ x → with-word x (λ k. with-word (getD m k none) (λ v. some (machine (pc + 2) (set r d v) sp ct m (note (array k) l (loaded k v))))) ≡ some z
+            → Follows array first (length m) l z (real.load c w (concrete now) d ad)
         by (some k) h e = known k (getD m k none) refl (reaches (length m) ad k h) e
         by none h e = let x : _≡_ {A = ℕ} 0 1 = cc (e) in absurd (omega arith)
 
     store-follows : (d ad : ℕ)
         → with-word (word-at (length m) ad)
-        (λ k. old-word (array k) (getD m k none) (λ v. some (machine (pc + 2) r sp rs (set m k (some (get r d))) (note (array k) l (stored k v (get r d)))))) ≡ some z
-        → Follows array first (length m) l z (real.store w (concrete now lr) d ad)
+        (λ k. old-word (array k) (getD m k none) (λ v. some (machine (pc + 2) r sp ct (set m k (some (get r d))) (note (array k) l (stored k v (get r d)))))) ≡ some z
+        → Follows array first (length m) l z (real.store w (concrete now) d ad)
     unfolding real.store next slotOf
     store-follows d ad e = by (word-at (length m) ad) refl e
       where
         put-it : (k : ℕ) (y : List Access) → Reaches (length m) ad k → l ++ listed array (stored k (getD w k 0) (get r d) ∷ []) ≡ y
-            → some (machine (pc + 2) r sp rs (set m k (some (get r d))) y) ≡ some z
-            → Follows array first (length m) l z (real.store w (concrete now lr) d ad)
+            → some (machine (pc + 2) r sp ct (set m k (some (get r d))) y) ≡ some z
+            → Follows array first (length m) l z (real.store w (concrete now) d ad)
         put-it k y o t e =
-            let s : machine (pc + 2) r sp rs (set m k (some (get r d))) y ≡ z = cc (e) in
+            let s : machine (pc + 2) r sp ct (set m k (some (get r d))) y ≡ z = cc (e) in
             rw (← s, o .aligned, o .low, in-words o (length w) (a .enough), o .word, next-pc pc p)
-            (record { lr = lr; words = set w k (get r d); is = refl; agrees = agrees-set k (get r d) (below o) a; trace = t; size = length-set m k (some (get r d)); within = (below o, tt) })
+            (record { words = set w k (get r d); is = refl; agrees = agrees-set k (get r d) (below o) a; trace = t; size = length-set m k (some (get r d)); within = (below o, tt) })
 
         known : (k : ℕ) (b : Bool) (u : Option ℕ) → array k ≡ b → getD m k none ≡ u → Reaches (length m) ad k
-            → old-word b u (λ v. some (machine (pc + 2) r sp rs (set m k (some (get r d))) (note b l (stored k v (get r d))))) ≡ some z
-            → Follows array first (length m) l z (real.store w (concrete now lr) d ad)
+            → old-word b u (λ v. some (machine (pc + 2) r sp ct (set m k (some (get r d))) (note b l (stored k v (get r d))))) ≡ some z
+            → Follows array first (length m) l z (real.store w (concrete now) d ad)
         known k true none q h o e = let x : _≡_ {A = ℕ} 0 1 = cc (e) in absurd (omega arith)
         known k true (some v) q h o e = put-it k (l ++ stored k v (get r d) ∷ []) o (rw (a .same k v h) (listed-one array l (stored k v (get r d)) ∙ rw q refl)) e
         known k false u q h o e = put-it k l o (listed-one array l (stored k (getD w k 0) (get r d)) ∙ rw q refl) e
 
         by : (x : Option ℕ) → word-at (length m) ad ≡ x
-            → with-word x (λ k. old-word (array k) (getD m k none) (λ v. some (machine (pc + 2) r sp rs (set m k (some (get r d))) (note (array k) l (stored k v (get r d)))))) ≡ some z
-            → Follows array first (length m) l z (real.store w (concrete now lr) d ad)
+            → with-word x (λ k. old-word (array k) (getD m k none) (λ v. some (machine (pc + 2) r sp ct (set m k (some (get r d))) (note (array k) l (stored k v (get r d)))))) ≡ some z
+            → Follows array first (length m) l z (real.store w (concrete now) d ad)
         by (some k) h e = known k (array k) (getD m k none) refl refl (reaches (length m) ad k h) e
         by none h e = let x : _≡_ {A = ℕ} 0 1 = cc (e) in absurd (omega arith)
 
-    branch-follows : (b : Bool) (k : ℕ) → some (machine (pick b (target pc k) (pc + 2)) r sp rs m l) ≡ some z → Follows array first (length m) l z (real.goes w (branch (concrete now lr) b k))
+    branch-follows : (b : Bool) (k : ℕ) → some (machine (pick b (target pc k) (pc + 2)) r sp ct m l) ≡ some z → Follows array first (length m) l z (real.goes w (branch (concrete now) b k))
     unfolding branch jump next
-    branch-follows true k e = keeps _ z w lr l a e refl refl
-    branch-follows false k e = keeps _ z w lr l a e refl (rw (next-pc pc p))
+    branch-follows true k e = keeps _ z w l a e refl refl
+    branch-follows false k e = keeps _ z w l a e refl (rw (next-pc pc p))
 
     -- one instruction
-    pub execute-follows : (i : Instr) → performs array i now ≡ some z → Follows array first (length m) l z (executeOf c w (concrete now lr) i)
+    pub execute-follows : (i : Instr) → performs array i now ≡ some z → Follows array first (length m) l z (executeOf c w (concrete now) i)
     unfolding executeOf result moves link
-    execute-follows (Shli n x d) e = keeps _ z w lr l a e refl (rw (next-pc pc p))
-    execute-follows (Shri n x d) e = keeps _ z w lr l a e refl (rw (next-pc pc p))
+    execute-follows (Shli n x d) e = keeps _ z w l a e refl (rw (next-pc pc p))
+    execute-follows (Shri n x d) e = keeps _ z w l a e refl (rw (next-pc pc p))
     execute-follows (Ashri n x d) e = let x : _≡_ {A = ℕ} 0 1 = cc (e) in absurd (omega arith)
-    execute-follows (Addr i x d) e = keeps _ z w lr l a e refl (rw (next-pc pc p))
-    execute-follows (Subr i x d) e = keeps _ z w lr l a e refl (rw (next-pc pc p))
-    execute-follows (Movi d u) e = keeps _ z w lr l a e refl (rw (next-pc pc p))
-    execute-follows (Addi d u) e = keeps _ z w lr l a e refl (rw (next-pc pc p))
-    execute-follows (Subi d u) e = keeps _ z w lr l a e refl (rw (next-pc pc p))
+    execute-follows (Addr i x d) e = keeps _ z w l a e refl (rw (next-pc pc p))
+    execute-follows (Subr i x d) e = keeps _ z w l a e refl (rw (next-pc pc p))
+    execute-follows (Movi d u) e = keeps _ z w l a e refl (rw (next-pc pc p))
+    execute-follows (Addi d u) e = keeps _ z w l a e refl (rw (next-pc pc p))
+    execute-follows (Subi d u) e = keeps _ z w l a e refl (rw (next-pc pc p))
     execute-follows (Ldrpci d u) e = let x : _≡_ {A = ℕ} 0 1 = cc (e) in absurd (omega arith)
     execute-follows (Strspi d u) e = store-follows d (add sp (4 * u)) e
     execute-follows (Ldrspi d u) e = load-follows d (add sp (4 * u)) e
     execute-follows (Addpci d u) e = let x : _≡_ {A = ℕ} 0 1 = cc (e) in absurd (omega arith)
     execute-follows (Addspi d u) e = let x : _≡_ {A = ℕ} 0 1 = cc (e) in absurd (omega arith)
-    execute-follows (Andr i d) e = keeps _ z w lr l a e refl (rw (next-pc pc p))
-    execute-follows (Xorr i d) e = keeps _ z w lr l a e refl (rw (next-pc pc p))
-    execute-follows (Shl i d) e = keeps _ z w lr l a e refl (rw (next-pc pc p))
-    execute-follows (Shr i d) e = keeps _ z w lr l a e refl (rw (next-pc pc p))
-    execute-follows (Negr i d) e = keeps _ z w lr l a e refl (rw (next-pc pc p))
-    execute-follows (Orr i d) e = keeps _ z w lr l a e refl (rw (next-pc pc p))
-    execute-follows (Mul i d) e = keeps _ z w lr l a e refl (rw (next-pc pc p))
-    execute-follows (Mvnr i d) e = keeps _ z w lr l a e refl (rw (next-pc pc p))
+    execute-follows (Andr i d) e = keeps _ z w l a e refl (rw (next-pc pc p))
+    execute-follows (Xorr i d) e = keeps _ z w l a e refl (rw (next-pc pc p))
+    execute-follows (Shl i d) e = keeps _ z w l a e refl (rw (next-pc pc p))
+    execute-follows (Shr i d) e = keeps _ z w l a e refl (rw (next-pc pc p))
+    execute-follows (Negr i d) e = keeps _ z w l a e refl (rw (next-pc pc p))
+    execute-follows (Orr i d) e = keeps _ z w l a e refl (rw (next-pc pc p))
+    execute-follows (Mul i d) e = keeps _ z w l a e refl (rw (next-pc pc p))
+    execute-follows (Mvnr i d) e = keeps _ z w l a e refl (rw (next-pc pc p))
     execute-follows (Str i b d) e = store-follows d (add (get r b) (get r i)) e
     execute-follows (Ldr i b d) e = load-follows d (add (get r b) (get r i)) e
     execute-follows (Stri u b d) e = let x : _≡_ {A = ℕ} 0 1 = cc (e) in absurd (omega arith)
     execute-follows (Ldri u b d) e = let x : _≡_ {A = ℕ} 0 1 = cc (e) in absurd (omega arith)
-    execute-follows (Incsp u) e = keeps _ z w lr l a e refl (rw (next-pc pc p))
-    execute-follows (Decsp u) e = keeps _ z w lr l a e refl (rw (next-pc pc p))
+    execute-follows (Incsp u) e = keeps _ z w l a e refl (rw (next-pc pc p))
+    execute-follows (Decsp u) e = keeps _ z w l a e refl (rw (next-pc pc p))
     execute-follows (Svc u) e = let x : _≡_ {A = ℕ} 0 1 = cc (e) in absurd (omega arith)
-    execute-follows (Beq k) e = branch-follows (eqb rs 0) k e
-    execute-follows (Bne k) e = branch-follows (not (eqb rs 0)) k e
+    execute-follows (Beq k) e = branch-follows (eqb (ct .tested) 0) k e
+    execute-follows (Bne k) e = branch-follows (not (eqb (ct .tested) 0)) k e
     execute-follows (Bge k) e = let x : _≡_ {A = ℕ} 0 1 = cc (e) in absurd (omega arith)
     execute-follows (Blt k) e = let x : _≡_ {A = ℕ} 0 1 = cc (e) in absurd (omega arith)
     execute-follows (Bu k) e = let x : _≡_ {A = ℕ} 0 1 = cc (e) in absurd (omega arith)
-    execute-follows (Bl k) e = keeps _ z w (add pc 5) l a e refl refl
+    execute-follows (Bl k) e = keeps _ z w l a e refl refl

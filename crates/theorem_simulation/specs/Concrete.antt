@@ -71,8 +71,7 @@ pub record Seen (E : Setting) (first : List ℕ) (s : State) (x : Point) : Type 
 
 -- a point of the machine stands for a state of the abstract machine
 pub record Matches (E : Setting) (first : List ℕ) (m : Abstract) (x : Point) : Type 0 where
-  pub lr : ℕ
-  pub is : x .state ≡ concrete m lr
+  pub is : x .state ≡ concrete m
   pub trace : x .trace ≡ trace-of m
   pub agrees : Agrees first (memory-of m) (x .words)
   pub whole : length (memory-of m) ≡ data-of E + E .stack
@@ -102,16 +101,15 @@ module _ (E : Setting) (ok : Limits E) (first : List ℕ) where
     pub matches : Matches E first m₁ (step-point E x)
 
   pub carried : (m m₁ : Abstract) (x : Point) → Matches E first m x → Goes (array-of E) (E .code) m m₁ → Carried m₁ x
-  carried (machine pc r sp rs mem l) m₁ x mt g =
+  carried (machine pc r sp ct mem l) m₁ x mt g =
       let i = g .instruction in
-      let f = execute-follows (array-of E) first (E .code) (ok .short-code) pc r sp rs mem l m₁ (x .words) (mt .lr) (mt .agrees) (omega (arith, g .holds .inside, ok .short-code)) i (g .does) in
-      let at : effect-at E x ≡ executeOf (E .code) (x .words) (concrete (machine pc r sp rs mem l) (mt .lr)) i
+      let f = execute-follows (array-of E) first (E .code) (ok .short-code) pc r sp ct mem l m₁ (x .words) (mt .agrees) (omega (arith, g .holds .inside, ok .short-code)) i (g .does) in
+      let at : effect-at E x ≡ executeOf (E .code) (x .words) (concrete (machine pc r sp ct mem l)) i
       = g .holds .runs (x .words) (x .state) (ap (λ (m : Machine). m .pc) (mt .is)) ∙ ap (λ (m : Machine). executeOf (E .code) (x .words) m i) (mt .is) in
-      let is : effect-at E x .after ≡ after (done (concrete m₁ (f .lr))) (f .words) = ap (λ (e : Effect). e .after) at ∙ f .is in
+      let is : effect-at E x .after ≡ after (done (concrete m₁)) (f .words) = ap (λ (e : Effect). e .after) at ∙ f .is in
       record {
         completes = record { status = ap (λ (a : After). a .state .status) is; within = rw (at, ← (mt .whole)) (f .within) };
         matches = record {
-          lr = f .lr;
           is = ap (λ (a : After). a .state .machine) is;
           trace = rw (mt .trace, at) (f .trace);
           agrees = rw (ap (λ (a : After). a .words) is) (f .agrees);
@@ -121,7 +119,7 @@ module _ (E : Setting) (ok : Limits E) (first : List ℕ) where
 
   -- demand 3's facts of an abstract state, carried over
   seen-of : (s : State) (m : Abstract) (x : Point) → Matches E first m x → Good E s (sp-of m) (memory-of m) (trace-of m) → Does E s x → Seen E first s x
-  seen-of s (machine pc r sp rs mem l) x mt q d =
+  seen-of s (machine pc r sp ct mem l) x mt q d =
       let e : x .state .sp ≡ sp = ap (λ (m : Machine). m .sp) (mt .is) in
       record {
         j = q .j;
@@ -136,7 +134,7 @@ module _ (E : Setting) (ok : Limits E) (first : List ℕ) where
   -- where the abstract machine stands at an SVC, so does the machine
   pub stopped : (s : State) (m : Abstract) (x : Point) → Matches E first m x → (b : Stands E s m) → Halts E s (b .number) x
   unfolding executeOf
-  stopped s (machine pc r sp rs mem l) x mt b = record {
+  stopped s (machine pc r sp ct mem l) x mt b = record {
     effect = b .at .runs (x .words) (x .state) (ap (λ (m : Machine). m .pc) (mt .is));
     ends = b .ends;
     declared = b .declared;

@@ -17,17 +17,17 @@ use Rattle.x_meaning.specs.SourceRun.{Item, evaluate, work₁, work₂, check, 
 use Rattle.translate_rules.specs.Constant.{load-constant}
 use Rattle.translate_rules.specs.Blocks.{push-constant, push-variable, check-subscript, load-element, monadic-instruction, work-monadic-code, diadic-instructions, work-diadic-code}
 use Rattle.translate_rules.specs.ImageCode.{expression-code}
-use Rattle.theorem_simulation.specs.Abstract.{registers, machine, performs, width}
+use Rattle.theorem_simulation.specs.Abstract.{registers, Control, tests, machine, performs, width}
 use Rattle.theorem_simulation.specs.Straight.{At, nil, _▸_, advance, head-at, tail-at, first-at, rest-at, advance-append, here, more, go, join, address, load-stack, store-stack, raise-stack}
 use Rattle.theorem_simulation.specs.Straight.{lower-stack, load-data, equal-taken, equal-passed, unequal-taken, unequal-passed, constant-0, constant-1}
 use Rattle.theorem_simulation.specs.Working.{Makes, diadic-run, diadic-fits, monadic-fits}
 use Rattle.theorem_simulation.specs.Relation.{Setting, data-of, array-of, Limits, there, Memory, Good, pushed, popped}
 use Rattle.theorem_simulation.specs.Block.{Claim, relate, good, apart, facts}
 
-module _ {E : Setting} (ok : Limits E) (d : List ℕ) (t : List Access) (c : List Item) (pc a b g r3 k rs : ℕ) (mem : List (Option ℕ)) where
+module _ {E : Setting} (ok : Limits E) (d : List ℕ) (t : List Access) (c : List Item) (pc a b g r3 k : ℕ) (ct : Control) (mem : List (Option ℕ)) where
   -- the state of the machine when a thing to do begins
   abbrev Here : Item → List ℕ → Type 0
-  Here x p = Claim E d t c pc a b g r3 k rs mem x p
+  Here x p = Claim E d t c pc a b g r3 k ct mem x p
 
   -- ── pushes ──
 
@@ -173,8 +173,8 @@ module _ {E : Setting} (ok : Limits E) (d : List ℕ) (t : List Access) (c : Lis
         falls = λ x. omega arith;
       }
     where
-      working : (o : Monadic) → performs (array-of E) (monadic-instruction o) (machine (pc + 2) (registers x b g r3) (address k) rs mem t)
-          ≡ some (machine (pc + 2 + width (monadic-instruction o)) (registers (work-monadic o x) b g r3) (address k) (work-monadic o x) mem t)
+      working : (o : Monadic) → performs (array-of E) (monadic-instruction o) (machine (pc + 2) (registers x b g r3) (address k) ct mem t)
+          ≡ some (machine (pc + 2 + width (monadic-instruction o)) (registers (work-monadic o x) b g r3) (address k) (tests (work-monadic o x) ct) mem t)
       working negate = refl
       working invert = refl
 
@@ -189,7 +189,7 @@ module _ {E : Setting} (ok : Limits E) (d : List ℕ) (t : List Access) (c : Lis
       let hy : y < modulus = mr .words k y (mr .stacked .0) in
       let hx : x < modulus = mr .words (suc k) x (mr .stacked .1 .0) in
       let w : work-diadic o x y < modulus = diadic-fits o hx hy in
-      let op : Makes (array-of E) (E .code) (Good E s) (address (suc k)) mem t (diadic-instructions o) (work-diadic o x y) (pc + 2 + 2 + 2) x y g r3 rs
+      let op : Makes (array-of E) (E .code) (Good E s) (address (suc k)) mem t (diadic-instructions o) (work-diadic o x y) (pc + 2 + 2 + 2) x y g r3 ct
       = diadic-run (ok .short-code) q′ o hx hy (first-at (diadic-instructions o) _ at) in
       let mr′ : Memory E d (work-diadic o x y ∷ p) (suc k) (set mem (suc k) (some (op .a))) = rw (op .value) (pushed (work-diadic o x y) w lo refl (popped (popped mr))) in
       record {

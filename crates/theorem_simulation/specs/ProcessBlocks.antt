@@ -21,7 +21,7 @@ use Rattle.translate_rules.specs.InstructionBytes.{size}
 use Rattle.translate_rules.specs.Blocks.{check-subscript, assign-variable, store-element, take-condition, jump-over, jump-back}
 use Rattle.translate_rules.specs.ImageCode.{expression-code, choice-code, repeat-code, process-code}
 use Rattle.translate_rules.specs.CodeLaws.{list-code}
-use Rattle.theorem_simulation.specs.Abstract.{registers, machine, target}
+use Rattle.theorem_simulation.specs.Abstract.{registers, Control, tests, machine, target}
 use Rattle.theorem_simulation.specs.Straight.{Holds, At, nil, _▸_, advance, head-at, tail-at, first-at, rest-at, advance-append, Goes, Path, here, more, go, address, load-stack, raise-stack}
 use Rattle.theorem_simulation.specs.Straight.{store-data, unequal-taken, unequal-passed, constant-1, constant-2}
 use Rattle.theorem_simulation.specs.Places.{advance-size, size-even, size-inside, over-lands, back-lands}
@@ -33,10 +33,10 @@ pub hop-to : (code : List ℕ) (pc : ℕ) {q k : ℕ} (c : List Item) → Holds 
 hop-to code pc [] f e n = (n .0, hop f (rw e (n .1)), n .2)
 hop-to code pc (x ∷ c) f e n = (n .0, hop f (rw e (n .1)), n .2, n .3)
 
-module _ {E : Setting} (ok : Limits E) (d : List ℕ) (t : List Access) (c : List Item) (pc a b g r3 k rs : ℕ) (mem : List (Option ℕ)) where
+module _ {E : Setting} (ok : Limits E) (d : List ℕ) (t : List Access) (c : List Item) (pc a b g r3 k : ℕ) (ct : Control) (mem : List (Option ℕ)) where
   -- the state of the machine when a thing to do begins
   abbrev Here : Item → List ℕ → Type 0
-  Here x p = Claim E d t c pc a b g r3 k rs mem x p
+  Here x p = Claim E d t c pc a b g r3 k ct mem x p
 
   -- ── assignments ──
 
@@ -95,14 +95,14 @@ module _ {E : Setting} (ok : Limits E) (d : List ℕ) (t : List Access) (c : Lis
   -- the condition comes off the stack; if it holds, the jump after the four instructions is stepped over
   module _ (x : Item) (w : ℕ) (p : List ℕ) (mr : Memory E d (w ∷ p) k mem) where
     abbrev Takes : ℕ → Type 0
-    Takes pc₁ = Path (array-of E) (E .code) (Good E (state d t (x ∷ c) (w ∷ p) going)) (machine pc₁ (registers (add w 0) b g r3) (address (suc k)) (add w 0) mem t) 4
-        (machine pc (registers a b g r3) (address k) rs mem t)
+    Takes pc₁ = Path (array-of E) (E .code) (Good E (state d t (x ∷ c) (w ∷ p) going)) (machine pc₁ (registers (add w 0) b g r3) (address (suc k)) (tests (add w 0) ct) mem t) 4
+        (machine pc (registers a b g r3) (address k) ct mem t)
 
     -- three instructions, then the branch
     takes : (pc₁ : ℕ) → At (E .code) pc take-condition
         → (Holds (E .code) (pc + 2 + 2 + 2) (Bne 1)
-        → Goes (array-of E) (E .code) (machine (pc + 2 + 2 + 2) (registers (add w 0) b g r3) (address (suc k)) (add w 0) mem t)
-        (machine pc₁ (registers (add w 0) b g r3) (address (suc k)) (add w 0) mem t))
+        → Goes (array-of E) (E .code) (machine (pc + 2 + 2 + 2) (registers (add w 0) b g r3) (address (suc k)) (tests (add w 0) ct) mem t)
+        (machine pc₁ (registers (add w 0) b g r3) (address (suc k)) (tests (add w 0) ct) mem t))
         → Takes pc₁
     unfolding take-condition
     takes pc₁ (f₁ ▸ f₂ ▸ f₃ ▸ f₄ ▸ nil) branch =

@@ -20,7 +20,7 @@ use Rattle.x_program.specs.Resolved.{DeclaredVariable, Resolved, ResolvedProces
 use Rattle.x_meaning.specs.SourceRun.{Item, evaluate, work₁, work₂, check, load, execute, set-variable, store, choose, repeat, End, going, finish, stopped, bad-subscript, State, state, moves}
 use Rattle.translate_rules.specs.Blocks.{check-subscript, load-element, work-monadic-code, work-diadic-code, assign-variable, store-element}
 use Rattle.translate_rules.specs.ImageCode.{expression-code, choice-code, repeat-code, process-code}
-use Rattle.theorem_simulation.specs.Abstract.{registers, Abstract, machine, target}
+use Rattle.theorem_simulation.specs.Abstract.{registers, Control, Abstract, machine, target}
 use Rattle.theorem_simulation.specs.Straight.{Holds, At, advance, address}
 
 -- the declarations, the code, and how many words the stack has
@@ -151,10 +151,10 @@ pub record Related (E : Setting) (s : State) (m : Abstract) : Type 0 where
   pub r2 : ℕ
   pub r3 : ℕ
   pub k : ℕ
-  pub rs : ℕ
+  pub control : Control
   pub mem : List (Option ℕ)
   pub source : s ≡ state d t c p e
-  pub target : m ≡ machine pc (registers r0 r1 r2 r3) (address k) rs mem t
+  pub target : m ≡ machine pc (registers r0 r1 r2 r3) (address k) control mem t
   pub place : Place E e c p pc
   pub memory : Memory E d p k mem
 

@@ -23,7 +23,7 @@ use Rattle.arm_machine.specs.Step.{onceOf}
 use Rattle.translate_rules.specs.Constant.{byte-constant, span-constant, long-constant, load-constant}
 use Rattle.translate_rules.specs.CodeLaws.{constant-byte, constant-span, constant-long}
 use Rattle.translate_rules.specs.Bits.{trailing-exact, trailing-lt}
-use Rattle.theorem_simulation.specs.Abstract.{get, Abstract, machine, pc-of, sp-of, memory-of, trace-of, word-at, old-word, note, target, performs, width}
+use Rattle.theorem_simulation.specs.Abstract.{get, Control, tests, Abstract, machine, pc-of, sp-of, memory-of, trace-of, word-at, old-word, note, target, performs, width}
 
 infixr 30 _▸_
 -- at pc a step of the machine executes i
@@ -97,72 +97,72 @@ address-word {n} {k} {a} h e =
 
 -- ── one lemma a kind of instruction ──
 
-module _ {array : ℕ → Bool} {code : List ℕ} {pc : ℕ} {r : List ℕ} {rs : ℕ} {mem : List (Option ℕ)} {l : List Access} {n : ℕ} where
+module _ {array : ℕ → Bool} {code : List ℕ} {pc : ℕ} {r : List ℕ} {ct : Control} {mem : List (Option ℕ)} {l : List Access} {n : ℕ} where
   pub load-stack : {d : ℕ} (k : ℕ) → Holds code pc (Ldrspi d n) → (j v : ℕ) → k + n ≡ j → j < length mem → length mem ≤ 16384 → array j ≡ false → getD mem j none ≡ some v
-      → Goes array code (machine pc r (address k) rs mem l) (machine (pc + 2) (set r d v) (address k) rs mem l)
+      → Goes array code (machine pc r (address k) ct mem l) (machine (pc + 2) (set r d v) (address k) ct mem l)
   unfolding address
   load-stack {d} k f j v e h b q s =
       let a : word-at (length mem) (add (address k) (4 * n)) ≡ some j = address-word h (omega arith) in
       go f (rw (a, s, q))
 
   pub store-stack : {d : ℕ} (k : ℕ) → Holds code pc (Strspi d n) → (j : ℕ) → k + n ≡ j → j < length mem → length mem ≤ 16384 → array j ≡ false
-      → Goes array code (machine pc r (address k) rs mem l) (machine (pc + 2) r (address k) rs (set mem j (some (get r d))) l)
+      → Goes array code (machine pc r (address k) ct mem l) (machine (pc + 2) r (address k) ct (set mem j (some (get r d))) l)
   unfolding address
   store-stack {d} k f j e h b q =
       let a : word-at (length mem) (add (address k) (4 * n)) ≡ some j = address-word h (omega arith) in
       go f (rw (a, q))
 
   pub raise-stack : (k : ℕ) → Holds code pc (Incsp n) → (j : ℕ) → k + n ≡ j → j ≤ 16384
-      → Goes array code (machine pc r (address k) rs mem l) (machine (pc + 2) r (address j) rs mem l)
+      → Goes array code (machine pc r (address k) ct mem l) (machine (pc + 2) r (address j) ct mem l)
   unfolding address
   raise-stack k f j e b =
       let a : add (address k) (4 * n) ≡ address j = omega arith in
       go f (rw a)
 
   pub lower-stack : (k : ℕ) → Holds code pc (Decsp n) → (j : ℕ) → j + n ≡ k → k ≤ 16384
-      → Goes array code (machine pc r (address k) rs mem l) (machine (pc + 2) r (address j) rs mem l)
+      → Goes array code (machine pc r (address k) ct mem l) (machine (pc + 2) r (address j) ct mem l)
   unfolding address
   lower-stack k f j e b =
       let a : sub (address k) (4 * n) ≡ address j = omega arith in
       go f (rw a)
 
-module _ {array : ℕ → Bool} {code : List ℕ} {pc : ℕ} {r : List ℕ} {sp rs : ℕ} {mem : List (Option ℕ)} {l : List Access} {d b i : ℕ} where
+module _ {array : ℕ → Bool} {code : List ℕ} {pc : ℕ} {r : List ℕ} {sp : ℕ} {ct : Control} {mem : List (Option ℕ)} {l : List Access} {d b i : ℕ} where
   pub load-data : Holds code pc (Ldr i b d) → (j v : ℕ) (t : Bool) → get r b ≡ base → get r i ≡ 4 * j → j < length mem → length mem ≤ 16384 → array j ≡ t → getD mem j none ≡ some v
-      → Goes array code (machine pc r sp rs mem l) (machine (pc + 2) (set r d v) sp rs mem (note t l (loaded j v)))
+      → Goes array code (machine pc r sp ct mem l) (machine (pc + 2) (set r d v) sp ct mem (note t l (loaded j v)))
   unfolding address
   load-data f j v t e e′ h bd q s =
       let a : word-at (length mem) (add (get r b) (get r i)) ≡ some j = address-word h (omega arith) in
       go f (rw (a, s, q))
 
   pub store-data : Holds code pc (Str i b d) → (j v : ℕ) (t : Bool) → get r b ≡ base → get r i ≡ 4 * j → j < length mem → length mem ≤ 16384 → array j ≡ t → getD mem j none ≡ some v
-      → Goes array code (machine pc r sp rs mem l) (machine (pc + 2) r sp rs (set mem j (some (get r d))) (note t l (stored j v (get r d))))
+      → Goes array code (machine pc r sp ct mem l) (machine (pc + 2) r sp ct (set mem j (some (get r d))) (note t l (stored j v (get r d))))
   unfolding address
   store-data f j v t e e′ h bd q s =
       let a : word-at (length mem) (add (get r b) (get r i)) ≡ some j = address-word h (omega arith) in
       go f (rw (a, s, q) (old t))
     where
-      old : (t : Bool) → old-word t (some v) (λ u. some (machine (pc + 2) r sp rs (set mem j (some (get r d))) (note t l (stored j u (get r d)))))
-          ≡ some (machine (pc + 2) r sp rs (set mem j (some (get r d))) (note t l (stored j v (get r d))))
+      old : (t : Bool) → old-word t (some v) (λ u. some (machine (pc + 2) r sp ct (set mem j (some (get r d))) (note t l (stored j u (get r d)))))
+          ≡ some (machine (pc + 2) r sp ct (set mem j (some (get r d))) (note t l (stored j v (get r d))))
       old true = refl
       old false = refl
 
 -- branches: `fits` is the code's length
-module _ {array : ℕ → Bool} {code : List ℕ} {pc : ℕ} {r : List ℕ} {sp rs : ℕ} {mem : List (Option ℕ)} {l : List Access} {n : ℕ} (fits : length code ≤ 65536) where
-  pub equal-taken : Holds code pc (Beq n) → (j : ℕ) → n < 128 → rs ≡ 0 → pc + 4 + 2 * n ≡ j → Goes array code (machine pc r sp rs mem l) (machine j r sp rs mem l)
+module _ {array : ℕ → Bool} {code : List ℕ} {pc : ℕ} {r : List ℕ} {sp : ℕ} {ct : Control} {mem : List (Option ℕ)} {l : List Access} {n : ℕ} (fits : length code ≤ 65536) where
+  pub equal-taken : Holds code pc (Beq n) → (j : ℕ) → n < 128 → ct .tested ≡ 0 → pc + 4 + 2 * n ≡ j → Goes array code (machine pc r sp ct mem l) (machine j r sp ct mem l)
   equal-taken f j b e h =
       let x : target pc n ≡ j = omega (arith, f .inside) in
-      go f (rw (eq-eqb rs 0 e, x))
+      go f (rw (eq-eqb (ct .tested) 0 e, x))
 
-  pub equal-passed : Holds code pc (Beq n) → 0 < rs → Goes array code (machine pc r sp rs mem l) (machine (pc + 2) r sp rs mem l)
-  equal-passed f h = go f (rw (ne-eqb rs 0 (omega arith)))
+  pub equal-passed : Holds code pc (Beq n) → 0 < ct .tested → Goes array code (machine pc r sp ct mem l) (machine (pc + 2) r sp ct mem l)
+  equal-passed f h = go f (rw (ne-eqb (ct .tested) 0 (omega arith)))
 
-  pub unequal-taken : Holds code pc (Bne n) → (j : ℕ) → n < 128 → 0 < rs → pc + 4 + 2 * n ≡ j → Goes array code (machine pc r sp rs mem l) (machine j r sp rs mem l)
+  pub unequal-taken : Holds code pc (Bne n) → (j : ℕ) → n < 128 → 0 < ct .tested → pc + 4 + 2 * n ≡ j → Goes array code (machine pc r sp ct mem l) (machine j r sp ct mem l)
   unequal-taken f j b e h =
       let x : target pc n ≡ j = omega (arith, f .inside) in
-      go f (rw (ne-eqb rs 0 (omega arith), x))
+      go f (rw (ne-eqb (ct .tested) 0 (omega arith), x))
 
-  pub unequal-passed : Holds code pc (Bne n) → rs ≡ 0 → Goes array code (machine pc r sp rs mem l) (machine (pc + 2) r sp rs mem l)
-  unequal-passed f e = go f (rw (eq-eqb rs 0 e))
+  pub unequal-passed : Holds code pc (Bne n) → ct .tested ≡ 0 → Goes array code (machine pc r sp ct mem l) (machine (pc + 2) r sp ct mem l)
+  unequal-passed f e = go f (rw (eq-eqb (ct .tested) 0 e))
 
 -- ── the constant ──
 
@@ -172,19 +172,21 @@ and-then [] n = n
 and-then (i ∷ is) n = suc (and-then is n)
 
 module _ {array : ℕ → Bool} {code : List ℕ} {sp : ℕ} {mem : List (Option ℕ)} {l : List Access} (d : ℕ) (r : List ℕ) (b : d < length r) where
-  shift-byte : {pc rs : ℕ} (x : ℕ) → Holds code pc (Shli 8 d d) → x < 16777216 → Goes array code (machine pc (set r d x) sp rs mem l) (machine (pc + 2) (set r d (x * 256)) sp (x * 256) mem l)
+  shift-byte : {pc : ℕ} {ct : Control} (x : ℕ) → Holds code pc (Shli 8 d d) → x < 16777216
+      → Goes array code (machine pc (set r d x) sp ct mem l) (machine (pc + 2) (set r d (x * 256)) sp (tests (x * 256) ct) mem l)
   unfolding shift-left
   shift-byte x f h =
       let e : x * 256 % 4294967296 ≡ x * 256 = omega arith in
       go f (rw (getD-set-same r d x 0, set-set r d x, e))
 
-  add-byte : {pc rs u : ℕ} (x : ℕ) → Holds code pc (Addi d u) → (y : ℕ) → x + u ≡ y → y < 4294967296 → Goes array code (machine pc (set r d x) sp rs mem l) (machine (pc + 2) (set r d y) sp y mem l)
+  add-byte : {pc u : ℕ} {ct : Control} (x : ℕ) → Holds code pc (Addi d u) → (y : ℕ) → x + u ≡ y → y < 4294967296
+      → Goes array code (machine pc (set r d x) sp ct mem l) (machine (pc + 2) (set r d y) sp (tests y ct) mem l)
   add-byte {u = u} x f y h b′ =
       let e : (x + u) % 4294967296 ≡ y = omega arith in
       go f (rw (getD-set-same r d x 0, set-set r d x, e))
 
-  shift-span : {pc rs : ℕ} (w : ℕ) → Holds code pc (Shli (trailingZeros 32 w) d d) → 0 < w → w < 4294967296
-      → Goes array code (machine pc (set r d (w / 2 ^ trailingZeros 32 w)) sp rs mem l) (machine (pc + 2) (set r d w) sp w mem l)
+  shift-span : {pc : ℕ} {ct : Control} (w : ℕ) → Holds code pc (Shli (trailingZeros 32 w) d d) → 0 < w → w < 4294967296
+      → Goes array code (machine pc (set r d (w / 2 ^ trailingZeros 32 w)) sp ct mem l) (machine (pc + 2) (set r d w) sp (tests w ct) mem l)
   unfolding shift-left
   shift-span w f p h =
       let t = trailingZeros 32 w in
@@ -194,18 +196,18 @@ module _ {array : ℕ → Bool} {code : List ℕ} {sp : ℕ} {mem : List (Option
 -- a run of these instructions leaves w in register d
 abbrev pub Loads : (ℕ → Bool) → List ℕ → (ℕ → List (Option ℕ) → List Access → Type 0) → Abstract → ℕ → List ℕ → ℕ → List (Option ℕ) → List Access → ℕ → ℕ → ℕ → List Instr → Type 0
 Loads array code Q z n r sp mem l d w pc is =
-    (rs : ℕ) → At code pc is → Path array code Q z n (machine (advance is pc) (set r d w) sp w mem l) → Path array code Q z (and-then is n) (machine pc r sp rs mem l)
+    (ct : Control) → At code pc is → Path array code Q z n (machine (advance is pc) (set r d w) sp (tests w ct) mem l) → Path array code Q z (and-then is n) (machine pc r sp ct mem l)
 
 module _ (array : ℕ → Bool) (code : List ℕ) (Q : ℕ → List (Option ℕ) → List Access → Type 0) (z : Abstract) (n : ℕ) (r : List ℕ) (sp : ℕ) (mem : List (Option ℕ)) (l : List Access)
     (q : Q sp mem l) (d : ℕ) (b : d < length r) (w pc : ℕ) (h : w < 4294967296) where
   load-byte : Loads array code Q z n r sp mem l d w pc (byte-constant d w)
-  load-byte rs (f ▸ nil) p = more q (go f refl) p
+  load-byte ct (f ▸ nil) p = more q (go f refl) p
 
   load-span : 0 < w → Loads array code Q z n r sp mem l d w pc (span-constant d w)
-  load-span k rs (f₁ ▸ f₂ ▸ nil) p = more q (go f₁ refl) (more q (shift-span d r b w f₂ k h) p)
+  load-span k ct (f₁ ▸ f₂ ▸ nil) p = more q (go f₁ refl) (more q (shift-span d r b w f₂ k h) p)
 
   load-long : Loads array code Q z n r sp mem l d w pc (long-constant d w)
-  load-long rs (f₁ ▸ f₂ ▸ f₃ ▸ f₄ ▸ f₅ ▸ f₆ ▸ f₇ ▸ nil) p =
+  load-long ct (f₁ ▸ f₂ ▸ f₃ ▸ f₄ ▸ f₅ ▸ f₆ ▸ f₇ ▸ nil) p =
       more q (go f₁ refl)
       (more q (shift-byte d r b (w / 16777216) f₂ (omega arith))
       (more q (add-byte d r b (w / 16777216 * 256) f₃ (w / 65536) (omega arith) (omega arith))
@@ -215,34 +217,34 @@ module _ (array : ℕ → Bool) (code : List ℕ) (Q : ℕ → List (Option ℕ)
       (more q (add-byte d r b (w / 256 * 256) f₇ w (omega arith) h) p))))))
 
   load-any : Loads array code Q z n r sp mem l d w pc (load-constant d w)
-  load-any rs at p = by (decLt w 256) (decLt (leadingZeros 32 w + trailingZeros 32 w) 24)
+  load-any ct at p = by (decLt w 256) (decLt (leadingZeros 32 w + trailingZeros 32 w) 24)
     where
-      by : Dec (w < 256) → Dec (leadingZeros 32 w + trailingZeros 32 w < 24) → Path array code Q z (and-then (load-constant d w) n) (machine pc r sp rs mem l)
-      by (yes k) s = let e = constant-byte d w k in rw e (load-byte rs (rw e at at) (rw e at p))
-      by (no k) (no s) = let e = constant-span d w (omega arith) (omega arith) in rw e (load-span (omega arith) rs (rw e at at) (rw e at p))
-      by (no k) (yes s) = let e = constant-long d w (omega arith) s in rw e (load-long rs (rw e at at) (rw e at p))
+      by : Dec (w < 256) → Dec (leadingZeros 32 w + trailingZeros 32 w < 24) → Path array code Q z (and-then (load-constant d w) n) (machine pc r sp ct mem l)
+      by (yes k) s = let e = constant-byte d w k in rw e (load-byte ct (rw e at at) (rw e at p))
+      by (no k) (no s) = let e = constant-span d w (omega arith) (omega arith) in rw e (load-span (omega arith) ct (rw e at at) (rw e at p))
+      by (no k) (yes s) = let e = constant-long d w (omega arith) s in rw e (load-long ct (rw e at at) (rw e at p))
 
-loads-constant : {array : ℕ → Bool} {code : List ℕ} {Q : ℕ → List (Option ℕ) → List Access → Type 0} {z : Abstract} {n pc : ℕ} {r : List ℕ} {sp rs : ℕ} {mem : List (Option ℕ)}
+loads-constant : {array : ℕ → Bool} {code : List ℕ} {Q : ℕ → List (Option ℕ) → List Access → Type 0} {z : Abstract} {n pc : ℕ} {r : List ℕ} {sp : ℕ} {ct : Control} {mem : List (Option ℕ)}
     {l : List Access} (d w : ℕ) → d < length r
-    → At code pc (load-constant d w) → w < 4294967296 → Q sp mem l → Path array code Q z n (machine (advance (load-constant d w) pc) (set r d w) sp w mem l)
-    → Path array code Q z (and-then (load-constant d w) n) (machine pc r sp rs mem l)
-loads-constant {array} {code} {Q} {z} {n} {pc} {r} {sp} {rs} {mem} {l} d w b at h q p = load-any array code Q z n r sp mem l q d b w pc h rs at p
+    → At code pc (load-constant d w) → w < 4294967296 → Q sp mem l → Path array code Q z n (machine (advance (load-constant d w) pc) (set r d w) sp (tests w ct) mem l)
+    → Path array code Q z (and-then (load-constant d w) n) (machine pc r sp ct mem l)
+loads-constant {array} {code} {Q} {z} {n} {pc} {r} {sp} {ct} {mem} {l} d w b at h q p = load-any array code Q z n r sp mem l q d b w pc h ct at p
 
 -- the constant in r0, r1, r2: the registers stand as a list whose places compute
-pub constant-0 : {array : ℕ → Bool} {code : List ℕ} {Q : ℕ → List (Option ℕ) → List Access → Type 0} {z : Abstract} {n pc x : ℕ} {r : List ℕ} {sp rs : ℕ} {mem : List (Option ℕ)}
+pub constant-0 : {array : ℕ → Bool} {code : List ℕ} {Q : ℕ → List (Option ℕ) → List Access → Type 0} {z : Abstract} {n pc x : ℕ} {r : List ℕ} {sp : ℕ} {ct : Control} {mem : List (Option ℕ)}
     {l : List Access} (w : ℕ)
-    → At code pc (load-constant 0 w) → w < 4294967296 → Q sp mem l → Path array code Q z n (machine (advance (load-constant 0 w) pc) (w ∷ r) sp w mem l)
-    → Path array code Q z (and-then (load-constant 0 w) n) (machine pc (x ∷ r) sp rs mem l)
+    → At code pc (load-constant 0 w) → w < 4294967296 → Q sp mem l → Path array code Q z n (machine (advance (load-constant 0 w) pc) (w ∷ r) sp (tests w ct) mem l)
+    → Path array code Q z (and-then (load-constant 0 w) n) (machine pc (x ∷ r) sp ct mem l)
 constant-0 w at h q p = loads-constant 0 w (omega arith) at h q p
 
-pub constant-1 : {array : ℕ → Bool} {code : List ℕ} {Q : ℕ → List (Option ℕ) → List Access → Type 0} {z : Abstract} {n pc x y : ℕ} {r : List ℕ} {sp rs : ℕ} {mem : List (Option ℕ)}
+pub constant-1 : {array : ℕ → Bool} {code : List ℕ} {Q : ℕ → List (Option ℕ) → List Access → Type 0} {z : Abstract} {n pc x y : ℕ} {r : List ℕ} {sp : ℕ} {ct : Control} {mem : List (Option ℕ)}
     {l : List Access} (w : ℕ)
-    → At code pc (load-constant 1 w) → w < 4294967296 → Q sp mem l → Path array code Q z n (machine (advance (load-constant 1 w) pc) (x ∷ w ∷ r) sp w mem l)
-    → Path array code Q z (and-then (load-constant 1 w) n) (machine pc (x ∷ y ∷ r) sp rs mem l)
+    → At code pc (load-constant 1 w) → w < 4294967296 → Q sp mem l → Path array code Q z n (machine (advance (load-constant 1 w) pc) (x ∷ w ∷ r) sp (tests w ct) mem l)
+    → Path array code Q z (and-then (load-constant 1 w) n) (machine pc (x ∷ y ∷ r) sp ct mem l)
 constant-1 w at h q p = loads-constant 1 w (omega arith) at h q p
 
-pub constant-2 : {array : ℕ → Bool} {code : List ℕ} {Q : ℕ → List (Option ℕ) → List Access → Type 0} {z : Abstract} {n pc x y v : ℕ} {r : List ℕ} {sp rs : ℕ}
+pub constant-2 : {array : ℕ → Bool} {code : List ℕ} {Q : ℕ → List (Option ℕ) → List Access → Type 0} {z : Abstract} {n pc x y v : ℕ} {r : List ℕ} {sp : ℕ} {ct : Control}
     {mem : List (Option ℕ)} {l : List Access} (w : ℕ)
-    → At code pc (load-constant 2 w) → w < 4294967296 → Q sp mem l → Path array code Q z n (machine (advance (load-constant 2 w) pc) (x ∷ y ∷ w ∷ r) sp w mem l)
-    → Path array code Q z (and-then (load-constant 2 w) n) (machine pc (x ∷ y ∷ v ∷ r) sp rs mem l)
+    → At code pc (load-constant 2 w) → w < 4294967296 → Q sp mem l → Path array code Q z n (machine (advance (load-constant 2 w) pc) (x ∷ y ∷ w ∷ r) sp (tests w ct) mem l)
+    → Path array code Q z (and-then (load-constant 2 w) n) (machine pc (x ∷ y ∷ v ∷ r) sp ct mem l)
 constant-2 w at h q p = loads-constant 2 w (omega arith) at h q p

@@ -19,7 +19,7 @@ use Rattle.arm_encoding.specs.declared.Instr.the-variants.{Shri, Addr, Subr, Mo
 use Rattle.x_program.specs.Tree.{Monadic, negate, invert, Diadic, plus, minus, times, bit-and, bit-or, bit-xor, right, left, equal, unequal, less, at-most, greater, at-least}
 use Rattle.x_meaning.specs.Operators.{work-monadic, work-diadic}
 use Rattle.translate_rules.specs.Blocks.{less-than, far-shift, diadic-instructions}
-use Rattle.theorem_simulation.specs.Abstract.{registers, get, machine, performs, width}
+use Rattle.theorem_simulation.specs.Abstract.{registers, Control, tests, get, machine, performs, width}
 use Rattle.theorem_simulation.specs.Straight.{At, nil, _▸_, Holds, advance, head-at, first-at, rest-at, advance-append, Goes, Path, here, more, go, join, equal-taken, equal-passed}
 use Rattle.theorem_simulation.specs.Straight.{unequal-taken}
 use Rattle.theorem_simulation.specs.Straight.{unequal-passed}
@@ -121,35 +121,35 @@ monadic-fits invert hx = omega arith
 -- ── runs ──
 
 -- a register's sign, and a difference, of registers that are known
-module _ {array : ℕ → Bool} {code : List ℕ} {pc sp rs : ℕ} {mem : List (Option ℕ)} {l : List Access} (r : List ℕ) {d : ℕ} where
-  sign-of : (i u : ℕ) → Holds code pc (Shri 31 i d) → get r i ≡ u → Goes array code (machine pc r sp rs mem l) (machine (pc + 2) (set r d (u / sign)) sp (u / sign) mem l)
+module _ {array : ℕ → Bool} {code : List ℕ} {pc sp : ℕ} {ct : Control} {mem : List (Option ℕ)} {l : List Access} (r : List ℕ) {d : ℕ} where
+  sign-of : (i u : ℕ) → Holds code pc (Shri 31 i d) → get r i ≡ u → Goes array code (machine pc r sp ct mem l) (machine (pc + 2) (set r d (u / sign)) sp (tests (u / sign) ct) mem l)
   unfolding shift-right
   sign-of i u f e = go f (rw e)
 
-  difference : (i j u v : ℕ) → Holds code pc (Subr j i d) → get r i ≡ u → get r j ≡ v → Goes array code (machine pc r sp rs mem l) (machine (pc + 2) (set r d (sub u v)) sp (sub u v) mem l)
+  difference : (i j u v : ℕ) → Holds code pc (Subr j i d) → get r i ≡ u → get r j ≡ v → Goes array code (machine pc r sp ct mem l) (machine (pc + 2) (set r d (sub u v)) sp (tests (sub u v) ct) mem l)
   difference i j u v f e e′ = go f (rw (e, e′))
 
--- a run of some code that leaves v in r0, and what it likes in r1, r2, r3 and rs
+-- a run of some code that leaves v in r0, and what it likes in r1, r2, r3 and the control
 pub record Makes (array : ℕ → Bool) (code : List ℕ) (Q : ℕ → List (Option ℕ) → List Access → Type 0) (sp : ℕ) (mem : List (Option ℕ)) (l : List Access) (is : List Instr)
-    (v pc x y c r3 rs : ℕ) : Type 0 where
+    (v pc x y c r3 : ℕ) (ct : Control) : Type 0 where
   pub a : ℕ
   pub b : ℕ
   pub d : ℕ
   pub e : ℕ
-  pub f : ℕ
+  pub f : Control
   pub n : ℕ
-  pub path : Path array code Q (machine (advance is pc) (registers a b d e) sp f mem l) n (machine pc (registers x y c r3) sp rs mem l)
+  pub path : Path array code Q (machine (advance is pc) (registers a b d e) sp f mem l) n (machine pc (registers x y c r3) sp ct mem l)
   pub value : a ≡ v
 
 module _ {array : ℕ → Bool} {code : List ℕ} {Q : ℕ → List (Option ℕ) → List Access → Type 0} {sp : ℕ} {mem : List (Option ℕ)} {l : List Access} (fits : length code ≤ 65536)
-    (q : Q sp mem l) {pc x y c r3 rs : ℕ} where
+    (q : Q sp mem l) {pc x y c r3 : ℕ} {ct : Control} where
   -- register i, which has u, below register j, which has v
   less-run : (i j u v : ℕ) → ((c d : ℕ) → get (registers x y c d) i ≡ u) → ((c d : ℕ) → get (registers x y c d) j ≡ v) → u < modulus → v < modulus
-      → At code pc (less-than i j) → Makes array code Q sp mem l (less-than i j) (truth (signed-less u v)) pc x y c r3 rs
+      → At code pc (less-than i j) → Makes array code Q sp mem l (less-than i j) (truth (signed-less u v)) pc x y c r3 ct
   unfolding less-than shift-right
   less-run i j u v gi gj hu hv (f₁ ▸ f₂ ▸ f₃ ▸ f₄ ▸ f₅ ▸ f₆ ▸ f₇ ▸ nil) = by (ℕ-discrete (u / sign) (v / sign))
     where
-      by : Dec (u / sign ≡ v / sign) → Makes array code Q sp mem l (less-than i j) (truth (signed-less u v)) pc x y c r3 rs
+      by : Dec (u / sign ≡ v / sign) → Makes array code Q sp mem l (less-than i j) (truth (signed-less u v)) pc x y c r3 ct
       by (yes h) =
           let z : sub (u / sign) (v / sign) ≡ 0 = omega arith in
           record {
@@ -178,18 +178,18 @@ module _ {array : ℕ → Bool} {code : List ℕ} {Q : ℕ → List (Option ℕ)
                 (more q (unequal-taken fits f₄ (pc + 2 + 2 + 2 + 2 + 2 + 2) (omega arith) z (omega arith)) (more q (go f₇ refl) here))));
           }
 
-  one-run : (i : Instr) (v : ℕ) → At code pc (i ∷ []) → performs array i (machine pc (registers x y c r3) sp rs mem l) ≡ some (machine (pc + width i) (registers v y c r3) sp v mem l)
-      → Makes array code Q sp mem l (i ∷ []) v pc x y c r3 rs
+  one-run : (i : Instr) (v : ℕ) → At code pc (i ∷ []) → performs array i (machine pc (registers x y c r3) sp ct mem l) ≡ some (machine (pc + width i) (registers v y c r3) sp (tests v ct) mem l)
+      → Makes array code Q sp mem l (i ∷ []) v pc x y c r3 ct
   one-run i v (f ▸ nil) e = record { a = _; b = _; d = _; e = _; f = _; n = _; value = refl; path = more q (go f e) here }
 
   -- a shift by a register: v is what the shift makes of the two registers
   shift-run : (i : Instr) (v : ℕ → ℕ → ℕ) → At code pc (far-shift ++ i ∷ [])
-      → ((pc x y c rs : ℕ) → performs array i (machine pc (registers x y c r3) sp rs mem l) ≡ some (machine (pc + width i) (registers (v x y) y c r3) sp (v x y) mem l))
-      → Makes array code Q sp mem l (far-shift ++ i ∷ []) (pick (ltb y 32) (v x y) (v 0 0)) pc x y c r3 rs
+      → ((pc x y c : ℕ) (ct : Control) → performs array i (machine pc (registers x y c r3) sp ct mem l) ≡ some (machine (pc + width i) (registers (v x y) y c r3) sp (tests (v x y) ct) mem l))
+      → Makes array code Q sp mem l (far-shift ++ i ∷ []) (pick (ltb y 32) (v x y) (v 0 0)) pc x y c r3 ct
   unfolding far-shift shift-right
   shift-run i v (f₁ ▸ f₂ ▸ f₃ ▸ f₄ ▸ f₅ ▸ nil) e = by (decLt y 32)
     where
-      by : Dec (y < 32) → Makes array code Q sp mem l (far-shift ++ i ∷ []) (pick (ltb y 32) (v x y) (v 0 0)) pc x y c r3 rs
+      by : Dec (y < 32) → Makes array code Q sp mem l (far-shift ++ i ∷ []) (pick (ltb y 32) (v x y) (v 0 0)) pc x y c r3 ct
       by (yes h) =
           let z : y / 32 ≡ 0 = omega arith in
           record {
@@ -217,11 +217,11 @@ module _ {array : ℕ → Bool} {code : List ℕ} {Q : ℕ → List (Option ℕ)
 
   -- r0 - r1 is 0 or not, and one more instruction
   equal-run : (i : Instr) (v : ℕ → ℕ) → x < modulus → y < modulus → At code pc (Subr 1 0 0 ∷ Beq 0 ∷ Movi 0 1 ∷ i ∷ [])
-      → ((pc x rs : ℕ) → performs array i (machine pc (registers x y c r3) sp rs mem l) ≡ some (machine (pc + width i) (registers (v x) y c r3) sp (v x) mem l))
-      → Makes array code Q sp mem l (Subr 1 0 0 ∷ Beq 0 ∷ Movi 0 1 ∷ i ∷ []) (pick (eqb x y) (v 0) (v 1)) pc x y c r3 rs
+      → ((pc x : ℕ) (ct : Control) → performs array i (machine pc (registers x y c r3) sp ct mem l) ≡ some (machine (pc + width i) (registers (v x) y c r3) sp (tests (v x) ct) mem l))
+      → Makes array code Q sp mem l (Subr 1 0 0 ∷ Beq 0 ∷ Movi 0 1 ∷ i ∷ []) (pick (eqb x y) (v 0) (v 1)) pc x y c r3 ct
   equal-run i v hx hy (f₁ ▸ f₂ ▸ f₃ ▸ f₄ ▸ nil) e = by (ℕ-discrete x y)
     where
-      by : Dec (x ≡ y) → Makes array code Q sp mem l (Subr 1 0 0 ∷ Beq 0 ∷ Movi 0 1 ∷ i ∷ []) (pick (eqb x y) (v 0) (v 1)) pc x y c r3 rs
+      by : Dec (x ≡ y) → Makes array code Q sp mem l (Subr 1 0 0 ∷ Beq 0 ∷ Movi 0 1 ∷ i ∷ []) (pick (eqb x y) (v 0) (v 1)) pc x y c r3 ct
       by (yes h) =
           let z : sub x y ≡ 0 = omega arith in
           record {
@@ -248,31 +248,31 @@ module _ {array : ℕ → Bool} {code : List ℕ} {Q : ℕ → List (Option ℕ)
           }
 
   -- one more instruction, on what was made
-  then-run : (is : List Instr) (i : Instr) (w : ℕ) (v : ℕ → ℕ) → At code pc (is ++ i ∷ []) → Makes array code Q sp mem l is w pc x y c r3 rs
-      → ((pc a b d e f : ℕ) → performs array i (machine pc (registers a b d e) sp f mem l) ≡ some (machine (pc + width i) (registers (v a) b d e) sp (v a) mem l))
-      → Makes array code Q sp mem l (is ++ i ∷ []) (v w) pc x y c r3 rs
+  then-run : (is : List Instr) (i : Instr) (w : ℕ) (v : ℕ → ℕ) → At code pc (is ++ i ∷ []) → Makes array code Q sp mem l is w pc x y c r3 ct
+      → ((pc a b d e : ℕ) (f : Control) → performs array i (machine pc (registers a b d e) sp f mem l) ≡ some (machine (pc + width i) (registers (v a) b d e) sp (tests (v a) f) mem l))
+      → Makes array code Q sp mem l (is ++ i ∷ []) (v w) pc x y c r3 ct
   then-run is i w v at m e = record {
     a = v (m .a);
     b = m .b;
     d = m .d;
     e = m .e;
-    f = v (m .a);
+    f = tests (v (m .a)) (m .f);
     n = m .n + 1;
     value = ap v (m .value);
     path = rw (advance-append is (i ∷ []) pc) (join (m .path) (more q (go (head-at (rest-at is (i ∷ []) at)) (e _ _ _ _ _ _)) here));
   }
 
-  pub diadic-run : (o : Diadic) → x < modulus → y < modulus → At code pc (diadic-instructions o) → Makes array code Q sp mem l (diadic-instructions o) (work-diadic o x y) pc x y c r3 rs
+  pub diadic-run : (o : Diadic) → x < modulus → y < modulus → At code pc (diadic-instructions o) → Makes array code Q sp mem l (diadic-instructions o) (work-diadic o x y) pc x y c r3 ct
   diadic-run plus hx hy at = one-run (Addr 1 0 0) (add x y) at refl
   diadic-run minus hx hy at = one-run (Subr 1 0 0) (sub x y) at refl
   diadic-run times hx hy at = one-run (Mul 1 0) (mul x y) at refl
   diadic-run bit-and hx hy at = one-run (Andr 1 0) (bitAnd x y) at refl
   diadic-run bit-or hx hy at = one-run (Orr 1 0) (bitOr x y) at refl
   diadic-run bit-xor hx hy at = one-run (Xorr 1 0) (bitXor x y) at refl
-  diadic-run right hx hy at = rw (right-value x y) (shift-run (Shr 1 0) (λ a b. shift-right a (b % 256)) at (λ pc x y c rs. refl))
-  diadic-run left hx hy at = rw (left-value x y) (shift-run (Shl 1 0) (λ a b. shift-left a (b % 256)) at (λ pc x y c rs. refl))
-  diadic-run equal hx hy at = rw (equal-value (eqb x y)) (equal-run (Subi 0 1) (λ a. sub a 1) hx hy at (λ pc x rs. refl))
-  diadic-run unequal hx hy at = rw (unequal-value (eqb x y)) (equal-run (Negr 0 0) (λ a. sub 0 a) hx hy at (λ pc x rs. refl))
+  diadic-run right hx hy at = rw (right-value x y) (shift-run (Shr 1 0) (λ a b. shift-right a (b % 256)) at (λ pc x y c ct. refl))
+  diadic-run left hx hy at = rw (left-value x y) (shift-run (Shl 1 0) (λ a b. shift-left a (b % 256)) at (λ pc x y c ct. refl))
+  diadic-run equal hx hy at = rw (equal-value (eqb x y)) (equal-run (Subi 0 1) (λ a. sub a 1) hx hy at (λ pc x ct. refl))
+  diadic-run unequal hx hy at = rw (unequal-value (eqb x y)) (equal-run (Negr 0 0) (λ a. sub 0 a) hx hy at (λ pc x ct. refl))
   diadic-run less hx hy at = less-run 0 1 x y (λ c d. refl) (λ c d. refl) hx hy at
   diadic-run at-most hx hy at =
       rw (← (truth-not (signed-less y x)))
