@@ -9,9 +9,6 @@ use arm_state::times4;
 use arm_word::add;
 use arm_word::complement;
 use arm_word::low_product;
-use arm_word::shift_left;
-use arm_word::shift_right;
-use arm_word::shift_right_signed;
 use arm_word::sub;
 
 // One instruction. A branch returns from its own arm: as a value chosen by the test, the next pc would wait for it.
@@ -19,27 +16,27 @@ pub fn execute(core: Core, i: Instr, code: &[u8], memory: &mut [u32]) -> Turn
     ensures { λ r. ⌜ cores.turned r (now (memory .exit)) ≡ spec.executeOf (now (code .entry)) (now (memory .entry)) (cores.whole core) i .after ⌝ }
 {
     match i {
-        Instr::Shli(n, l, d) => core.gives(d, shift_left(core.reg(l), n as u32)),
-        Instr::Shri(n, l, d) => core.gives(d, shift_right(core.reg(l), n as u32)),
-        Instr::Ashri(n, l, d) => core.gives(d, shift_right_signed(core.reg(l), n as u32)),
-        Instr::Addr(r, l, d) => core.gives(d, add(core.reg(l), core.reg(r))),
-        Instr::Subr(r, l, d) => core.gives(d, sub(core.reg(l), core.reg(r))),
-        Instr::Movi(d, u) => core.gives(d, u as u32),
-        Instr::Addi(d, u) => core.gives(d, add(core.reg(d), u as u32)),
-        Instr::Subi(d, u) => core.gives(d, sub(core.reg(d), u as u32)),
+        Instr::Shli(n, l, d) => core.shifts_left(d, core.reg(l), n as u32),
+        Instr::Shri(n, l, d) => core.shifts_right(d, core.reg(l), n as u32),
+        Instr::Ashri(n, l, d) => core.shifts_right_signed(d, core.reg(l), n as u32),
+        Instr::Addr(r, l, d) => core.adds(d, core.reg(l), core.reg(r)),
+        Instr::Subr(r, l, d) => core.subtracts(d, core.reg(l), core.reg(r)),
+        Instr::Movi(d, u) => core.sets(d, u as u32),
+        Instr::Addi(d, u) => core.adds(d, core.reg(d), u as u32),
+        Instr::Subi(d, u) => core.subtracts(d, core.reg(d), u as u32),
         Instr::Ldrpci(d, u) => core.load(d, add(core.here(), times4(u)), code, memory),
         Instr::Strspi(d, u) => core.store(d, add(core.sp, times4(u)), memory),
         Instr::Ldrspi(d, u) => core.load(d, add(core.sp, times4(u)), code, memory),
         Instr::Addpci(d, u) => core.takes(d, add(core.here(), times4(u))).done(),
         Instr::Addspi(d, u) => core.takes(d, add(core.sp, times4(u))).done(),
-        Instr::Andr(r, d) => core.gives(d, core.reg(d) & core.reg(r)),
-        Instr::Xorr(r, d) => core.gives(d, core.reg(d) ^ core.reg(r)),
-        Instr::Shl(r, d) => core.gives(d, shift_left(core.reg(d), core.reg(r) % 256)),
-        Instr::Shr(r, d) => core.gives(d, shift_right(core.reg(d), core.reg(r) % 256)),
-        Instr::Negr(r, d) => core.gives(d, sub(0, core.reg(r))),
-        Instr::Orr(r, d) => core.gives(d, core.reg(d) | core.reg(r)),
-        Instr::Mul(r, d) => core.gives(d, low_product(core.reg(d), core.reg(r))),
-        Instr::Mvnr(r, d) => core.gives(d, complement(core.reg(r))),
+        Instr::Andr(r, d) => core.sets(d, core.reg(d) & core.reg(r)),
+        Instr::Xorr(r, d) => core.sets(d, core.reg(d) ^ core.reg(r)),
+        Instr::Shl(r, d) => core.shifts_left(d, core.reg(d), core.reg(r) % 256),
+        Instr::Shr(r, d) => core.shifts_right(d, core.reg(d), core.reg(r) % 256),
+        Instr::Negr(r, d) => core.subtracts(d, 0, core.reg(r)),
+        Instr::Orr(r, d) => core.sets(d, core.reg(d) | core.reg(r)),
+        Instr::Mul(r, d) => core.sets(d, low_product(core.reg(d), core.reg(r))),
+        Instr::Mvnr(r, d) => core.sets(d, complement(core.reg(r))),
         Instr::Str(x, b, d) => core.store(d, add(core.reg(b), core.reg(x)), memory),
         Instr::Ldr(x, b, d) => core.load(d, add(core.reg(b), core.reg(x)), code, memory),
         Instr::Stri(u, b, d) => core.store(d, add(core.reg(b), times4(u)), memory),
@@ -48,25 +45,25 @@ pub fn execute(core: Core, i: Instr, code: &[u8], memory: &mut [u32]) -> Turn
         Instr::Decsp(u) => core.moves(sub(core.sp, times4(u))).done(),
         Instr::Svc(u) => core.ended(u),
         Instr::Beq(k) => {
-            if core.rs == 0 {
+            if core.flags.z {
                 return core.jump(k).done();
             }
             core.next().done()
         }
         Instr::Bne(k) => {
-            if core.rs != 0 {
+            if !core.flags.z {
                 return core.jump(k).done();
             }
             core.next().done()
         }
         Instr::Bge(k) => {
-            if core.rs < 0x8000_0000 {
+            if !core.less() {
                 return core.jump(k).done();
             }
             core.next().done()
         }
         Instr::Blt(k) => {
-            if core.rs >= 0x8000_0000 {
+            if core.less() {
                 return core.jump(k).done();
             }
             core.next().done()

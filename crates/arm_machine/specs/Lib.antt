@@ -7,3 +7,4 @@ pub mod Turns
 pub mod StepLaws
 pub mod Placed
 pub mod Iterations
+pub mod RunStill

@@ -64,6 +64,9 @@ kept (faulted f n l) h = (refl, refl, refl)
 pub step-kept : (c w : List ℕ) (m : Machine) → 0 < stepOf c w m .after .state .status → (stepOf c w m .after .state .machine ≡ m) × (stepOf c w m .after .words ≡ w) × (stepOf c w m .access ≡ [])
 step-kept c w m = kept (step-outcome c w m)
 
+pub once-kept : (c w : List ℕ) (m : Machine) → 0 < onceOf c w m .after .state .status → onceOf c w m .after .state .machine ≡ m
+once-kept c w m h = kept (once-outcome c w m) h .0
+
 -- a completed instruction's answer is its state
 pub once-done : (c w : List ℕ) (m : Machine) → onceOf c w m .after .state .status ≡ 0 → onceOf c w m .after .state ≡ done (onceOf c w m .after .state .machine)
 once-done c w m = go (once-outcome c w m)

@@ -6,13 +6,13 @@ use lib.ListN.{length, getD, set}
 use lib.Dec.{ltb, leb, eqb}
 use lib.Bits.{bitAnd, bitOr, bitXor}
 use Rattle.arm_word.specs.Choice.{pick}
-use Rattle.arm_word.specs.Word.{add, sub, mul, complement, shift-left, shift-right, shift-right-signed}
+use Rattle.arm_word.specs.Word.{add, sub, mul, complement}
 use Rattle.arm_word.specs.Access.{Access, loaded, stored}
 use Rattle.arm_encoding.specs.declared.Instr.{Instr}
 use Rattle.arm_encoding.specs.declared.Instr.the-variants.{Shli, Shri, Ashri, Addr, Subr, Movi, Addi, Subi, Ldrpci, Strspi, Ldrspi, Addpci, Addspi, Andr, Xorr, Shl, Shr, Negr, Orr, Mul}
 use Rattle.arm_encoding.specs.declared.Instr.the-variants.{Mvnr, Str, Ldr}
 use Rattle.arm_encoding.specs.declared.Instr.the-variants.{Stri, Ldri, Incsp, Decsp, Svc, Beq, Bne, Bge, Blt, Bu, Bl}
-use Rattle.arm_state.specs.State.{base, reg, next, takes, result, moves, jump, branch, link, here}
+use Rattle.arm_state.specs.State.{base, reg, next, takes, sets, adds, subtracts, shifts-left, shifts-right, shifts-right-signed, less, moves, jump, branch, link, here}
 use Rattle.arm_state.specs.declared.Machine.{Machine}
 use Rattle.arm_state.specs.declared.Stepped.{Stepped}
 use Rattle.arm_state.specs.declared.Aligned.{Aligned}
@@ -98,27 +98,27 @@ store w m d a = storeAt w m d (alignedOf a)
 -- ── one clause an instruction: code c, words w, state m ──
 
 unfoldable pub executeOf : List ℕ → List ℕ → Machine → Instr → Effect
-executeOf c w m (Shli n l d) = goes w (result m d (shift-left (reg m l) n))
-executeOf c w m (Shri n l d) = goes w (result m d (shift-right (reg m l) n))
-executeOf c w m (Ashri n l d) = goes w (result m d (shift-right-signed (reg m l) n))
-executeOf c w m (Addr r l d) = goes w (result m d (add (reg m l) (reg m r)))
-executeOf c w m (Subr r l d) = goes w (result m d (sub (reg m l) (reg m r)))
-executeOf c w m (Movi d u) = goes w (result m d u)
-executeOf c w m (Addi d u) = goes w (result m d (add (reg m d) u))
-executeOf c w m (Subi d u) = goes w (result m d (sub (reg m d) u))
+executeOf c w m (Shli n l d) = goes w (shifts-left m d (reg m l) n)
+executeOf c w m (Shri n l d) = goes w (shifts-right m d (reg m l) n)
+executeOf c w m (Ashri n l d) = goes w (shifts-right-signed m d (reg m l) n)
+executeOf c w m (Addr r l d) = goes w (adds m d (reg m l) (reg m r))
+executeOf c w m (Subr r l d) = goes w (subtracts m d (reg m l) (reg m r))
+executeOf c w m (Movi d u) = goes w (sets m d u)
+executeOf c w m (Addi d u) = goes w (adds m d (reg m d) u)
+executeOf c w m (Subi d u) = goes w (subtracts m d (reg m d) u)
 executeOf c w m (Ldrpci d u) = load c w m d (add (here m) (4 * u))
 executeOf c w m (Strspi d u) = store w m d (add (m .sp) (4 * u))
 executeOf c w m (Ldrspi d u) = load c w m d (add (m .sp) (4 * u))
 executeOf c w m (Addpci d u) = goes w (takes m d (add (here m) (4 * u)))
 executeOf c w m (Addspi d u) = goes w (takes m d (add (m .sp) (4 * u)))
-executeOf c w m (Andr r d) = goes w (result m d (bitAnd (reg m d) (reg m r)))
-executeOf c w m (Xorr r d) = goes w (result m d (bitXor (reg m d) (reg m r)))
-executeOf c w m (Shl r d) = goes w (result m d (shift-left (reg m d) (reg m r % 256)))
-executeOf c w m (Shr r d) = goes w (result m d (shift-right (reg m d) (reg m r % 256)))
-executeOf c w m (Negr r d) = goes w (result m d (sub 0 (reg m r)))
-executeOf c w m (Orr r d) = goes w (result m d (bitOr (reg m d) (reg m r)))
-executeOf c w m (Mul r d) = goes w (result m d (mul (reg m d) (reg m r)))
-executeOf c w m (Mvnr r d) = goes w (result m d (complement (reg m r)))
+executeOf c w m (Andr r d) = goes w (sets m d (bitAnd (reg m d) (reg m r)))
+executeOf c w m (Xorr r d) = goes w (sets m d (bitXor (reg m d) (reg m r)))
+executeOf c w m (Shl r d) = goes w (shifts-left m d (reg m d) (reg m r % 256))
+executeOf c w m (Shr r d) = goes w (shifts-right m d (reg m d) (reg m r % 256))
+executeOf c w m (Negr r d) = goes w (subtracts m d 0 (reg m r))
+executeOf c w m (Orr r d) = goes w (sets m d (bitOr (reg m d) (reg m r)))
+executeOf c w m (Mul r d) = goes w (sets m d (mul (reg m d) (reg m r)))
+executeOf c w m (Mvnr r d) = goes w (sets m d (complement (reg m r)))
 executeOf c w m (Str i b d) = store w m d (add (reg m b) (reg m i))
 executeOf c w m (Ldr i b d) = load c w m d (add (reg m b) (reg m i))
 executeOf c w m (Stri u b d) = store w m d (add (reg m b) (4 * u))
@@ -126,9 +126,9 @@ executeOf c w m (Ldri u b d) = load c w m d (add (reg m b) (4 * u))
 executeOf c w m (Incsp u) = goes w (moves m (add (m .sp) (4 * u)))
 executeOf c w m (Decsp u) = goes w (moves m (sub (m .sp) (4 * u)))
 executeOf c w m (Svc u) = stops w (ended m u)
-executeOf c w m (Beq k) = goes w (branch m (eqb (m .rs) 0) k)
-executeOf c w m (Bne k) = goes w (branch m (not (eqb (m .rs) 0)) k)
-executeOf c w m (Bge k) = goes w (branch m (ltb (m .rs) 2147483648) k)
-executeOf c w m (Blt k) = goes w (branch m (leb 2147483648 (m .rs)) k)
+executeOf c w m (Beq k) = goes w (branch m (m .flags .z) k)
+executeOf c w m (Bne k) = goes w (branch m (not (m .flags .z)) k)
+executeOf c w m (Bge k) = goes w (branch m (not (less m)) k)
+executeOf c w m (Blt k) = goes w (branch m (less m) k)
 executeOf c w m (Bu k) = goes w (jump m k)
 executeOf c w m (Bl k) = goes w (link m k)

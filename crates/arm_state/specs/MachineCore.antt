@@ -16,7 +16,7 @@ whole c = record {
   sp = c .sp;
   lr = c .lr;
   pc = c .pc;
-  rs = c .rs;
+  flags = c .flags;
 }
 
 -- what an instruction did

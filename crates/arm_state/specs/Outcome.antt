@@ -15,6 +15,7 @@ use Rattle.arm_encoding.specs.declared.Instr.the-variants.{Stri, Ldri, Incsp, D
 use Rattle.arm_state.specs.State.{reg, next, takes, result, moves, jump, branch, link}
 use Rattle.arm_state.specs.Effects.{after, Effect, done, ended, goes, stops, alignedOf, slotOf, codeWord, loadSlot, loadAt, load, storeSlot, storeAt, store, executeOf}
 use Rattle.arm_state.specs.Lookup.{slot-lt}
+use Rattle.arm_state.specs.declared.Flags.{Flags}
 use Rattle.arm_state.specs.declared.Machine.{Machine}
 use Rattle.arm_state.specs.declared.Aligned.{Aligned}
 use Rattle.arm_state.specs.declared.Aligned.the-variants.{Address, Not}
@@ -40,9 +41,9 @@ next-registers : (m : Machine) → length (next m .regs) ≡ length (m .regs)
 unfolding next
 next-registers m = refl
 
-result-registers : (m : Machine) (d v : ℕ) → length (result m d v .regs) ≡ length (m .regs)
+result-registers : (m : Machine) (d v : ℕ) (f : Flags) → length (result m d v f .regs) ≡ length (m .regs)
 unfolding result
-result-registers m d v = length-set (m .regs) d v
+result-registers m d v f = length-set (m .regs) d v
 
 moves-registers : (m : Machine) (sp : ℕ) → length (moves m sp .regs) ≡ length (m .regs)
 unfolding moves
@@ -92,27 +93,27 @@ store-outcome w m d a = at (alignedOf a)
 
 pub execute-outcome : (c w : List ℕ) (m : Machine) (i : Instr) → Outcome w m (executeOf c w m i)
 unfolding executeOf
-execute-outcome c w m (Shli n l d) = completed _ (result-registers m d _)
-execute-outcome c w m (Shri n l d) = completed _ (result-registers m d _)
-execute-outcome c w m (Ashri n l d) = completed _ (result-registers m d _)
-execute-outcome c w m (Addr r l d) = completed _ (result-registers m d _)
-execute-outcome c w m (Subr r l d) = completed _ (result-registers m d _)
-execute-outcome c w m (Movi d u) = completed _ (result-registers m d _)
-execute-outcome c w m (Addi d u) = completed _ (result-registers m d _)
-execute-outcome c w m (Subi d u) = completed _ (result-registers m d _)
+execute-outcome c w m (Shli n l d) = completed _ (result-registers m d _ _)
+execute-outcome c w m (Shri n l d) = completed _ (result-registers m d _ _)
+execute-outcome c w m (Ashri n l d) = completed _ (result-registers m d _ _)
+execute-outcome c w m (Addr r l d) = completed _ (result-registers m d _ _)
+execute-outcome c w m (Subr r l d) = completed _ (result-registers m d _ _)
+execute-outcome c w m (Movi d u) = completed _ (result-registers m d _ _)
+execute-outcome c w m (Addi d u) = completed _ (result-registers m d _ _)
+execute-outcome c w m (Subi d u) = completed _ (result-registers m d _ _)
 execute-outcome c w m (Ldrpci d u) = load-outcome c w m d _
 execute-outcome c w m (Strspi d u) = store-outcome w m d _
 execute-outcome c w m (Ldrspi d u) = load-outcome c w m d _
 execute-outcome c w m (Addpci d u) = completed _ (takes-registers m d _)
 execute-outcome c w m (Addspi d u) = completed _ (takes-registers m d _)
-execute-outcome c w m (Andr r d) = completed _ (result-registers m d _)
-execute-outcome c w m (Xorr r d) = completed _ (result-registers m d _)
-execute-outcome c w m (Shl r d) = completed _ (result-registers m d _)
-execute-outcome c w m (Shr r d) = completed _ (result-registers m d _)
-execute-outcome c w m (Negr r d) = completed _ (result-registers m d _)
-execute-outcome c w m (Orr r d) = completed _ (result-registers m d _)
-execute-outcome c w m (Mul r d) = completed _ (result-registers m d _)
-execute-outcome c w m (Mvnr r d) = completed _ (result-registers m d _)
+execute-outcome c w m (Andr r d) = completed _ (result-registers m d _ _)
+execute-outcome c w m (Xorr r d) = completed _ (result-registers m d _ _)
+execute-outcome c w m (Shl r d) = completed _ (result-registers m d _ _)
+execute-outcome c w m (Shr r d) = completed _ (result-registers m d _ _)
+execute-outcome c w m (Negr r d) = completed _ (result-registers m d _ _)
+execute-outcome c w m (Orr r d) = completed _ (result-registers m d _ _)
+execute-outcome c w m (Mul r d) = completed _ (result-registers m d _ _)
+execute-outcome c w m (Mvnr r d) = completed _ (result-registers m d _ _)
 execute-outcome c w m (Str i b d) = store-outcome w m d _
 execute-outcome c w m (Ldr i b d) = load-outcome c w m d _
 execute-outcome c w m (Stri u b d) = store-outcome w m d _

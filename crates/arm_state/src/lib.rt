@@ -2,21 +2,39 @@
 // `Machine` is the state as callers hold it, `Core` the same as a run holds it.
 ghost use mathlib.Core.Path.{_≡_};
 ghost use Prim.Native.Nat.{_+_, _*_, _<_};
+ghost use lib.Dec.{eqb};
 ghost use lib.ListN.{length, getD};
 ghost use Rattle.arm_state.specs.State as state;
 ghost use Rattle.arm_state.specs.Effects as spec;
 ghost use Rattle.arm_state.specs.Lookup as lookup;
 ghost use Rattle.arm_state.specs.MachineCore as core;
 ghost use Rattle.arm_word.specs.Choice.{pick};
+use arm_word::Sum;
 use arm_word::add;
+use arm_word::complement;
+use arm_word::differ;
+use arm_word::last_left;
+use arm_word::last_right;
+use arm_word::shift_left;
+use arm_word::shift_right;
+use arm_word::shift_right_signed;
 use arm_word::sub;
+use arm_word::with_carry;
+
+// The flags of Armv6-M's manual: negative, zero, carry, overflow.
+pub struct Flags {
+    pub n: bool,
+    pub z: bool,
+    pub c: bool,
+    pub v: bool,
+}
 
 pub struct Machine {
     pub regs: [u32; 8],
     pub sp: u32,
     pub lr: u32,
     pub pc: u32,
-    pub rs: u32,
+    pub flags: Flags,
 }
 
 // What a step did: status 0 one instruction, 1 an SVC, whose number is `number`, 21 to 24 a fault, 31 and 32 a refusal.
@@ -40,7 +58,7 @@ pub struct Core {
     pub sp: u32,
     pub lr: u32,
     pub pc: u32,
-    pub rs: u32,
+    pub flags: Flags,
 }
 
 // What an instruction did, as in `Stepped`.
@@ -88,7 +106,7 @@ impl Machine {
             sp: add(Machine::DATA_BASE, bytes),
             lr: 0,
             pc: 0,
-            rs: 0,
+            flags: no_flags(),
         }
     }
 
@@ -101,7 +119,7 @@ impl Machine {
             sp: 0,
             lr: 0,
             pc: 0,
-            rs: 0,
+            flags: no_flags(),
         }
     }
 
@@ -110,6 +128,7 @@ impl Machine {
         ensures { λ r. ⌜ core.whole r ≡ self ⌝ }
     {
         let r = self.regs;
+        let flags = self.flags;
         Core {
             r0: r[0],
             r1: r[1],
@@ -122,9 +141,40 @@ impl Machine {
             sp: self.sp,
             lr: self.lr,
             pc: self.pc,
-            rs: self.rs,
+            flags,
         }
     }
+}
+
+// All four 0.
+fn no_flags() -> Flags
+    ensures { λ r. ⌜ r ≡ state.no-flags ⌝ }
+{
+    Flags {
+        n: false,
+        z: false,
+        c: false,
+        v: false,
+    }
+}
+
+// N and Z of a result, C and V as they are given.
+fn flags_of(r: u32, c: bool, v: bool) -> Flags
+    ensures { λ f. ⌜ f ≡ state.flagsOf r c v ⌝ }
+{
+    Flags {
+        n: r >= 0x8000_0000,
+        z: r == 0,
+        c,
+        v,
+    }
+}
+
+// C after a shift by n places: the old one if n is 0, else the last bit out.
+fn carry_of(n: u32, old: bool, last: bool) -> bool
+    ensures { λ r. ⌜ r ≡ pick (eqb n 0) old last ⌝ }
+{
+    if n == 0 { old } else { last }
 }
 
 fn choose(test: bool, a: u32, b: u32) -> u32
@@ -138,6 +188,7 @@ impl Core {
     pub fn whole(self) -> Machine
         ensures { λ r. ⌜ r ≡ core.whole self ⌝ }
     {
+        let flags = self.flags;
         Machine {
             regs: [
                 self.r0,
@@ -152,7 +203,7 @@ impl Core {
             sp: self.sp,
             lr: self.lr,
             pc: self.pc,
-            rs: self.rs,
+            flags,
         }
     }
 
@@ -196,10 +247,11 @@ impl Core {
         self
     }
 
-    // A register takes a word, and rs stays.
+    // A register takes a word, and the flags stay.
     pub fn takes(self, d: u8, v: u32) -> Core
         ensures { λ r. ⌜ core.whole r ≡ state.takes (core.whole self) d v ⌝ }
     {
+        let flags = self.flags;
         Core {
             r0: choose(d == 0, v, self.r0),
             r1: choose(d == 1, v, self.r1),
@@ -212,17 +264,78 @@ impl Core {
             sp: self.sp,
             lr: self.lr,
             pc: add(self.pc, 2),
-            rs: self.rs,
+            flags,
         }
     }
 
-    // A register takes a result, and so does rs.
-    pub fn result(self, d: u8, v: u32) -> Core
-        ensures { λ r. ⌜ core.whole r ≡ state.result (core.whole self) d v ⌝ }
+    // A register takes a result, and these are the flags after it.
+    fn result(self, d: u8, v: u32, flags: Flags) -> Turn
+        ensures { λ r. ⌜ core.stepped r ≡ spec.done (state.result (core.whole self) d v flags) ⌝ }
     {
         let mut m = self.takes(d, v);
-        m.rs = v;
-        m
+        m.flags = flags;
+        m.done()
+    }
+
+    // N and Z of a result; C and V stay.
+    pub fn sets(self, d: u8, r: u32) -> Turn
+        ensures { λ t. ⌜ core.stepped t ≡ spec.done (state.sets (core.whole self) d r) ⌝ }
+    {
+        let f = self.flags;
+        self.result(d, r, flags_of(r, f.c, f.v))
+    }
+
+    // All four, of a sum.
+    fn summed(self, d: u8, s: Sum) -> Turn
+        ensures { λ t. ⌜ core.stepped t ≡ spec.done (state.summed (core.whole self) d s) ⌝ }
+    {
+        self.result(d, s.word, flags_of(s.word, s.carry, s.overflow))
+    }
+
+    pub fn adds(self, d: u8, x: u32, y: u32) -> Turn
+        ensures { λ t. ⌜ core.stepped t ≡ spec.done (state.adds (core.whole self) d x y) ⌝ }
+    {
+        self.summed(d, with_carry(x, y, false))
+    }
+
+    pub fn subtracts(self, d: u8, x: u32, y: u32) -> Turn
+        ensures { λ t. ⌜ core.stepped t ≡ spec.done (state.subtracts (core.whole self) d x y) ⌝ }
+    {
+        self.summed(d, with_carry(x, complement(y), true))
+    }
+
+    // N, Z and C of a shift by n places; by none, C stays. V stays.
+    fn shifted(self, d: u8, r: u32, n: u32, last: bool) -> Turn
+        ensures { λ t. ⌜ core.stepped t ≡ spec.done (state.shifted (core.whole self) d r n last) ⌝ }
+    {
+        let f = self.flags;
+        self.result(d, r, flags_of(r, carry_of(n, f.c, last), f.v))
+    }
+
+    pub fn shifts_left(self, d: u8, x: u32, n: u32) -> Turn
+        ensures { λ t. ⌜ core.stepped t ≡ spec.done (state.shifts-left (core.whole self) d x n) ⌝ }
+    {
+        self.shifted(d, shift_left(x, n), n, last_left(x, n))
+    }
+
+    pub fn shifts_right(self, d: u8, x: u32, n: u32) -> Turn
+        ensures { λ t. ⌜ core.stepped t ≡ spec.done (state.shifts-right (core.whole self) d x n) ⌝ }
+    {
+        self.shifted(d, shift_right(x, n), n, last_right(x, n))
+    }
+
+    pub fn shifts_right_signed(self, d: u8, x: u32, n: u32) -> Turn
+        ensures { λ t. ⌜ core.stepped t ≡ spec.done (state.shifts-right-signed (core.whole self) d x n) ⌝ }
+    {
+        self.shifted(d, shift_right_signed(x, n), n, last_right(x, n))
+    }
+
+    // N and V differ.
+    pub fn less(self) -> bool
+        ensures { λ r. ⌜ r ≡ state.less (core.whole self) ⌝ }
+    {
+        let f = self.flags;
+        differ(f.n, f.v)
     }
 
     // sp moves.
@@ -291,12 +404,6 @@ impl Core {
             status: f,
             number: 0,
         }
-    }
-
-    pub fn gives(self, d: u8, v: u32) -> Turn
-        ensures { λ r. ⌜ core.stepped r ≡ spec.done (state.result (core.whole self) d v) ⌝ }
-    {
-        self.result(d, v).done()
     }
 
     pub fn load(self, d: u8, a: u32, code: &[u8], memory: &[u32]) -> Turn

@@ -2,7 +2,9 @@
 pub mod Choice
 pub mod ChoiceLaws
 pub mod Word
+pub mod Carry
 pub mod Access
 pub mod Ascii
 pub mod WordLaws
+pub mod CarryLaws
 pub mod Tests

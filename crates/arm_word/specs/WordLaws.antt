@@ -5,11 +5,12 @@ use Prim.Native.Nat.{ℕ, _+_, _-_, _*_, _/_, _%_, _^_, _≤_, _<_}
 use native.Mathlib.Nat.{mod-lt, div-le-self, lt-of-le-of-lt}
 use native.Mathlib.Omega.{arith}
 use lib.Dec.{ltb, lit<}
-use lib.IntN.{ℤ, pos, negsuc}
+use lib.IntN.{pos, negsuc}
 use lib.Signed.{ltZ}
 use borrow.Author.Tests.{lt-ltb, le-ltb, ltb-true, ltb-false}
 use Rattle.arm_word.specs.Choice.{pick}
 use Rattle.arm_word.specs.ChoiceLaws.{by-test}
+use Rattle.arm_word.specs.Carry.{signed}
 use Rattle.arm_word.specs.Word.{shift-left, shift-right, signed-less}
 
 -- ── shifts give words ──
@@ -45,15 +46,11 @@ shift-right-large a n h = rw (le-ltb n 32 h)
 
 -- ── words read as signed numbers ──
 
--- a word as a number of two's complement
-unfoldable pub signed : ℕ → ℤ
-signed a = pick (ltb a 2147483648) (pos a) (negsuc (4294967295 - a))
-
-signed-pos : (a : ℕ) → a < 2147483648 → signed a ≡ pos a
+pub signed-pos : (a : ℕ) → a < 2147483648 → signed a ≡ pos a
 unfolding signed
 signed-pos a h = rw (lt-ltb a 2147483648 h)
 
-signed-neg : (a : ℕ) → 2147483648 ≤ a → signed a ≡ negsuc (4294967295 - a)
+pub signed-neg : (a : ℕ) → 2147483648 ≤ a → signed a ≡ negsuc (4294967295 - a)
 unfolding signed
 signed-neg a h = rw (le-ltb a 2147483648 h)
 

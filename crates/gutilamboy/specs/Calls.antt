@@ -1,7 +1,11 @@
 -- The exported calls over words: what each leaves in its answer, in the 12 words of the state and in the lent buffers. Definitions; rests on `gutilamboy_numbers` and on what the calls mean.
 use Prim.Native.Nat.{ℕ}
+use mathlib.Core.Bool.{Bool}
 use mathlib.Core.List.{List, [], _∷_}
+use lib.Dec.{ltb, eqb}
+use Rattle.arm_word.specs.Choice.{pick}
 use Rattle.arm_state.specs.Effects.{After}
+use Rattle.arm_state.specs.declared.Machine.{Machine}
 use Rattle.arm_state.specs.declared.Stepped.{Stepped}
 use Rattle.arm_machine.specs.Step.{stepOf}
 use Rattle.arm_machine.specs.MachineRun.{RunAfter, runOf}
@@ -44,17 +48,26 @@ steppedWords s = s .status ∷ s .number ∷ []
 abbrev pub ranWords : Ran → List ℕ
 ranWords r = r .status ∷ r .number ∷ r .count ∷ []
 
-abbrev pub ofStep : After → Left
-ofStep a = left (steppedWords (a .state)) (stateWords (a .state .machine)) (a .words)
+-- the state's words where an instruction completed; else, other bits of the APSR word included, the words that came
+abbrev pub handed : Bool → Machine → List ℕ → List ℕ
+handed completed m state = pick completed (stateWords m) state
 
-abbrev pub ofRun : RunAfter → Left
-ofRun r = left (ranWords (r .state)) (stateWords (r .state .machine)) (r .words)
+-- a step that completed: "a faulting instruction changes no register", a refused step "hands back its state", and so does an SVC
+abbrev pub ofStep : List ℕ → After → Left
+ofStep state a = left (steppedWords (a .state)) (handed (eqb (a .state .status) 0) (a .state .machine) state) (a .words)
+
+-- an SVC counts, and leaves the state to the instructions before it
+abbrev pub svc-count : ℕ → ℕ
+svc-count status = pick (eqb status 1) 1 0
+
+abbrev pub ofRun : List ℕ → RunAfter → Left
+ofRun state r = left (ranWords (r .state)) (handed (ltb (svc-count (r .state .status)) (r .state .count)) (r .state .machine) state) (r .words)
 
 abbrev pub stepCall : List ℕ → List ℕ → List ℕ → Left
-stepCall code memory state = ofStep (stepOf code memory (stateOf state) .after)
+stepCall code memory state = ofStep state (stepOf code memory (stateOf state) .after)
 
 abbrev pub runCall : ℕ → List ℕ → List ℕ → List ℕ → Left
-runCall limit code memory state = ofRun (runOf limit code memory (stateOf state))
+runCall limit code memory state = ofRun state (runOf limit code memory (stateOf state))
 
 -- ── translate: the answer's words, in the order of the report's lines, the table's words, the code's bytes ──
 

@@ -1,2 +1,3 @@
 -- The exported calls over words.
 pub mod Calls
+pub mod CallLaws

@@ -36,7 +36,7 @@ pub extern "C" fn gutilamboy_start(
     started.status
 }
 
-// Status and number into `out`; the state from and to `state`.
+// Status and number into `out`; the state from and to `state`, which stays as it came where no instruction completes.
 #[no_mangle]
 pub extern "C" fn gutilamboy_step(
     code: &[u8],
@@ -47,11 +47,21 @@ pub extern "C" fn gutilamboy_step(
     ensures { λ _. ⌜ calls.left (now (out .exit)) (now (state .exit)) (now (memory .exit)) ≡ calls.stepCall (now (code .entry)) (now (memory .entry)) (now (state .entry)) ⌝ }
 {
     let stepped = arm_machine::step(state_of(state), code, memory);
-    *state = state_words(stepped.machine);
     *out = [stepped.status, stepped.number];
+    if stepped.status != 0 {
+        return;
+    }
+    *state = state_words(stepped.machine);
 }
 
-// Status, number and count into `out`; the state from and to `state`.
+// 1 for a run that an SVC ended: it counts, and completes nothing.
+fn svc_count(status: u32) -> u64
+    ensures { λ r. ⌜ r ≡ calls.svc-count status ⌝ }
+{
+    if status == 1 { 1 } else { 0 }
+}
+
+// Status, number and count into `out`; the state from and to `state`, as for a step.
 #[no_mangle]
 pub extern "C" fn gutilamboy_run(
     code: &[u8],
@@ -63,6 +73,9 @@ pub extern "C" fn gutilamboy_run(
     ensures { λ _. ⌜ calls.left (now (out .exit)) (now (state .exit)) (now (memory .exit)) ≡ calls.runCall limit (now (code .entry)) (now (memory .entry)) (now (state .entry)) ⌝ }
 {
     let ran = arm_machine::run(state_of(state), code, memory, limit);
-    *state = state_words(ran.machine);
     *out = [ran.status as u64, ran.number as u64, ran.count];
+    if ran.count <= svc_count(ran.status) {
+        return;
+    }
+    *state = state_words(ran.machine);
 }

@@ -1,9 +1,13 @@
 -- Numbers and back: an instruction comes back from its numbers, a state from its words, and words from their state. Laws; rests on Numbers.
 use mathlib.Core.Path.{_≡_, refl, sym, ap}
 use mathlib.Core.List.{List}
-use Prim.Native.Nat.{ℕ}
+use mathlib.Core.Bool.{Bool, true, false}
+use Prim.Native.Nat.{ℕ, zero, suc, _+_, _*_, _-_, _/_, _%_, _<_}
+use native.Mathlib.Nat.{zero-mul, one-mul}
 use native.Mathlib.Omega.{arith}
-use lib.ListN.{length, getD}
+use lib.ListN.{length, getD, set}
+use lib.Dec.{eqb}
+use Rattle.arm_word.specs.Choice.{pick}
 use Rattle.arm_encoding.specs.declared.Instr.{Instr}
 use Rattle.arm_encoding.specs.declared.Instr.the-variants.{Shli, Shri, Ashri, Addr, Subr, Movi, Addi, Subi, Ldrpci, Strspi, Ldrspi, Addpci, Addspi, Andr, Xorr, Shl, Shr, Negr, Orr, Mul}
 use Rattle.arm_encoding.specs.declared.Instr.the-variants.{Mvnr, Str, Ldr}
@@ -12,7 +16,7 @@ use Rattle.arm_encoding.specs.declared.Decoded.{Decoded}
 use Rattle.arm_encoding.specs.declared.Decoded.the-variants.{Known, Unknown}
 use Rattle.arm_state.specs.MachineCoreLaws.{elements, elements-are}
 use Rattle.arm_state.specs.declared.Machine.{Machine}
-use Rattle.gutilamboy_numbers.specs.Numbers.{instructions, instructionOf, instructionWords, decodedWords, stateWords, stateOf}
+use Rattle.gutilamboy_numbers.specs.Numbers.{instructions, instructionOf, instructionWords, decodedWords, apsrFlags, apsrWord, stateWords, stateOf}
 
 -- the instruction of five words
 abbrev pub numbered : List ℕ → Decoded
@@ -63,10 +67,54 @@ decoding-back Unknown = refl
 
 -- ── states ──
 
-pub words-back : (s : List ℕ) → length s ≡ 12 → stateWords (stateOf s) ≡ s
+pub flags-back : (n z c v : Bool) → apsrFlags (apsrWord (record { n = n; z = z; c = c; v = v })) ≡ record { n = n; z = z; c = c; v = v }
+flags-back true true true true = refl
+flags-back true true true false = refl
+flags-back true true false true = refl
+flags-back true true false false = refl
+flags-back true false true true = refl
+flags-back true false true false = refl
+flags-back true false false true = refl
+flags-back true false false false = refl
+flags-back false true true true = refl
+flags-back false true true false = refl
+flags-back false true false true = refl
+flags-back false true false false = refl
+flags-back false false true true = refl
+flags-back false false true false = refl
+flags-back false false false true = refl
+flags-back false false false false = refl
+
+-- of an APSR word the four bits come back, and 0 for the others
+pub apsr-back : (w : ℕ) → w < 4294967296 → apsrWord (apsrFlags w) ≡ w - w % 268435456
+apsr-back w h =
+    rw (
+      weighed (w / 2147483648 % 2) 2147483648 (omega arith),
+      weighed (w / 1073741824 % 2) 1073741824 (omega arith),
+      weighed (w / 536870912 % 2) 536870912 (omega arith),
+      weighed (w / 268435456 % 2) 268435456 (omega arith),
+    )
+    (together w (w / 268435456) (w / 536870912) (w / 1073741824) _ _ _ _ _ (omega arith) (omega arith) (omega arith) (omega arith))
+  where
+    -- four bits above the rest
+    together : (w q p o n z c v r : ℕ) → w ≡ q * 268435456 + r → q ≡ 2 * p + v → p ≡ 2 * o + c → o ≡ 2 * n + z
+        → n * 2147483648 + z * 1073741824 + c * 536870912 + v * 268435456 ≡ w - r
+    together w q p o n z c v r e f g i = omega arith
+
+    -- a bit by its weight
+    weighed : (b k : ℕ) → b < 2 → pick (eqb b 1) k 0 ≡ b * k
+    weighed zero k h = sym (zero-mul k)
+    weighed (suc zero) k h = sym (one-mul k)
+    weighed (suc (suc b)) k h = absurd (omega arith)
+
+pub words-back : (s : List ℕ) → length s ≡ 12 → getD s 11 0 < 4294967296 → stateWords (stateOf s) ≡ set s 11 (getD s 11 0 - getD s 11 0 % 268435456)
 unfolding elements
-words-back s e = sym (elements-are 12 0 s (omega arith))
+words-back s e h =
+    let w = getD s 11 0 in
+    rw (apsr-back w h) (sym (ap (λ (l : List ℕ). set l 11 (w - w % 268435456)) (elements-are 12 0 s (omega arith))))
 
 pub state-back : (m : Machine) → length (m .regs) ≡ 8 → stateOf (stateWords m) ≡ m
 unfolding elements
-state-back m e = ap (λ (r : List ℕ). record { regs = r; sp = m .sp; lr = m .lr; pc = m .pc; rs = m .rs }) (sym (elements-are 8 0 (m .regs) (omega arith)))
+state-back m e =
+    rw (flags-back (m .flags .n) (m .flags .z) (m .flags .c) (m .flags .v))
+    (ap (λ (r : List ℕ). record { regs = r; sp = m .sp; lr = m .lr; pc = m .pc; flags = m .flags }) (sym (elements-are 8 0 (m .regs) (omega arith))))

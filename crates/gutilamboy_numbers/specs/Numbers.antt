@@ -1,7 +1,9 @@
 -- Instructions, decodings and states as words. Definitions.
-use Prim.Native.Nat.{ℕ}
+use Prim.Native.Nat.{ℕ, _+_, _/_, _%_}
 use mathlib.Core.List.{List, [], _∷_}
 use lib.ListN.{getD}
+use lib.Dec.{eqb}
+use Rattle.arm_word.specs.Choice.{pick}
 use Rattle.arm_encoding.specs.declared.Instr.{Instr}
 use Rattle.arm_encoding.specs.declared.Instr.the-variants.{Shli, Shri, Ashri, Addr, Subr, Movi, Addi, Subi, Ldrpci, Strspi, Ldrspi, Addpci, Addspi, Andr, Xorr, Shl, Shr, Negr, Orr, Mul}
 use Rattle.arm_encoding.specs.declared.Instr.the-variants.{Mvnr, Str, Ldr}
@@ -10,6 +12,7 @@ use Rattle.arm_encoding.specs.declared.Encoded.{Encoded}
 use Rattle.arm_encoding.specs.declared.Decoded.{Decoded}
 use Rattle.arm_encoding.specs.declared.Decoded.the-variants.{Known, Unknown}
 use Rattle.arm_encoding.specs.Encoding.{encodeOf, refused}
+use Rattle.arm_state.specs.declared.Flags.{Flags}
 use Rattle.arm_state.specs.declared.Machine.{Machine}
 
 -- the instructions by number, from 0: up to three fields, in the order of document 01's codes from the highest, or a distance
@@ -105,12 +108,27 @@ decodedWords Unknown = 34 ∷ 0 ∷ 0 ∷ 0 ∷ 0 ∷ []
 abbrev pub encodedWords : Encoded → List ℕ
 encodedWords e = e .status ∷ e .count ∷ e .first ∷ e .second ∷ []
 
--- a state: r0 to r7, sp, lr, pc, rs
+-- ── states: request 2026-02 in rs's place, "N, Z, C and V"; in the word APSR of the manual N is bit 31, Z 30, C 29, V 28 ──
+
+-- the bits of a word; all other bits of an APSR word are ignored
+abbrev pub apsrFlags : ℕ → Flags
+apsrFlags w = record { n = eqb (w / 2147483648 % 2) 1; z = eqb (w / 1073741824 % 2) 1; c = eqb (w / 536870912 % 2) 1; v = eqb (w / 268435456 % 2) 1 }
+
+-- and back; all other bits are 0
+abbrev pub apsrWord : Flags → ℕ
+apsrWord f = pick (f .n) 2147483648 0 + pick (f .z) 1073741824 0 + pick (f .c) 536870912 0 + pick (f .v) 268435456 0
+
+-- r0 to r7, sp, lr, pc, APSR
 abbrev pub stateWords : Machine → List ℕ
 stateWords m =
     getD (m .regs) 0 0 ∷ getD (m .regs) 1 0 ∷ getD (m .regs) 2 0 ∷ getD (m .regs) 3 0 ∷ getD (m .regs) 4 0 ∷ getD (m .regs) 5 0 ∷ getD (m .regs) 6 0 ∷ getD (m .regs) 7 0
-    ∷ m .sp ∷ m .lr ∷ m .pc ∷ m .rs ∷ []
+    ∷ m .sp ∷ m .lr ∷ m .pc ∷ apsrWord (m .flags) ∷ []
 
 abbrev pub stateOf : List ℕ → Machine
-stateOf s =
-    record { regs = getD s 0 0 ∷ getD s 1 0 ∷ getD s 2 0 ∷ getD s 3 0 ∷ getD s 4 0 ∷ getD s 5 0 ∷ getD s 6 0 ∷ getD s 7 0 ∷ []; sp = getD s 8 0; lr = getD s 9 0; pc = getD s 10 0; rs = getD s 11 0 }
+stateOf s = record {
+  regs = getD s 0 0 ∷ getD s 1 0 ∷ getD s 2 0 ∷ getD s 3 0 ∷ getD s 4 0 ∷ getD s 5 0 ∷ getD s 6 0 ∷ getD s 7 0 ∷ [];
+  sp = getD s 8 0;
+  lr = getD s 9 0;
+  pc = getD s 10 0;
+  flags = apsrFlags (getD s 11 0);
+}

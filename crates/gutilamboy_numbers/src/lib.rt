@@ -1,9 +1,12 @@
 // Instructions, decodings and states of the machine as numbers, for the C boundary.
 ghost use mathlib.Core.Path.{_≡_};
 ghost use mathlib.Core.List.{[], _∷_};
+ghost use Prim.Native.Nat.{_≤_};
+ghost use Rattle.arm_word.specs.Choice.{pick};
 ghost use Rattle.gutilamboy_numbers.specs.Numbers as numbers;
 use arm_encoding::Decoded;
 use arm_encoding::Instr;
+use arm_state::Flags;
 use arm_state::Machine;
 
 // The instruction of a number, of up to three fields and of a distance; a number from 34 on has none.
@@ -106,15 +109,44 @@ pub fn decoded_words(d: Decoded) -> [u32; 5]
     instruction_words(i)
 }
 
+// The flags of an APSR word: N in bit 31, Z 30, C 29, V 28. All other bits are ignored.
+fn apsr_flags(w: u32) -> Flags
+    ensures { λ r. ⌜ r ≡ numbers.apsrFlags w ⌝ }
+{
+    Flags {
+        n: w / 0x8000_0000 % 2 == 1,
+        z: w / 0x4000_0000 % 2 == 1,
+        c: w / 0x2000_0000 % 2 == 1,
+        v: w / 0x1000_0000 % 2 == 1,
+    }
+}
+
+fn weight(b: bool, w: u32) -> u32
+    ensures { λ r. ⌜ (r ≡ pick b w 0) × (r ≤ w) ⌝ }
+{
+    if b { w } else { 0 }
+}
+
+// And back; all other bits are 0.
+fn apsr_word(f: Flags) -> u32
+    ensures { λ r. ⌜ r ≡ numbers.apsrWord f ⌝ }
+{
+    weight(f.n, 0x8000_0000)
+        + weight(f.z, 0x4000_0000)
+        + weight(f.c, 0x2000_0000)
+        + weight(f.v, 0x1000_0000)
+}
+
 pub fn state_of(s: &[u32; 12]) -> Machine
     ensures { λ r. ⌜ r ≡ numbers.stateOf (now (s .entry)) ⌝ }
 {
+    let apsr = s[11];
     Machine {
         regs: [s[0], s[1], s[2], s[3], s[4], s[5], s[6], s[7]],
         sp: s[8],
         lr: s[9],
         pc: s[10],
-        rs: s[11],
+        flags: apsr_flags(apsr),
     }
 }
 
@@ -134,6 +166,6 @@ pub fn state_words(m: Machine) -> [u32; 12]
         m.sp,
         m.lr,
         m.pc,
-        m.rs,
+        apsr_word(m.flags),
     ]
 }

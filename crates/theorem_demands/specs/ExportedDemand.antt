@@ -25,7 +25,7 @@ unfoldable pub exported-calls : List ℕ → List Call → List ℕ → List ℕ
 exported-calls code [] memory state = []
 exported-calls code (k ∷ ks) memory state = let a = exported code k memory state in a ∷ exported-calls code ks (a .memory) (a .state)
 
--- the words that start leaves: r0 to r7, sp, lr, pc, rs
+-- the words that start leaves: r0 to r7, sp, lr, pc, APSR
 abbrev pub first-words : Program → List ℕ
 first-words p = 0 ∷ 0 ∷ 0 ∷ 0 ∷ 0 ∷ 0 ∷ 0 ∷ base ∷ (base + 4 * needs p) ∷ 0 ∷ 0 ∷ 0 ∷ []
 

@@ -1,20 +1,28 @@
 -- Demand 1's refusals and demands 3 and 4 at the C boundary, proved: an exported call does to the words of a state what the call does to the state. Rests on DemandsProof and on numbers' laws; assumes nothing.
-use mathlib.Core.Path.{_≡_, refl, ap, subst, _∙_}
+use mathlib.Core.Path.{_≡_, refl, sym, ap, subst, _∙_}
+use mathlib.Core.Bool.{Bool, false}
 use mathlib.Core.List.{List, [], _∷_}
 use Prim.Native.Nat.{ℕ}
 use native.Mathlib.Omega.{arith}
 use lib.ListN.{length}
+use lib.Dec.{ltb, eqb}
+use borrow.Author.Tests.{ltb-false, eqb-false}
 use Rattle.x_program.specs.Tree.{Program}
 use Rattle.x_verdict.specs.Deserved.{FirstDeserved}
 use Rattle.translate_rules.specs.ImageCode.{image}
 use Rattle.arm_state.specs.State.{base, freshOf}
 use Rattle.arm_state.specs.declared.Machine.{Machine}
+use Rattle.arm_word.specs.ChoiceLaws.{by-test}
 use Rattle.arm_word.specs.Access.{Access}
+use Rattle.arm_machine.specs.Step.{stepOf}
+use Rattle.arm_machine.specs.StepLaws.{step-kept}
+use Rattle.arm_machine.specs.MachineRun.{runOf}
+use Rattle.arm_machine.specs.RunStill.{run-still}
 use Rattle.arm_machine.specs.Iterations.{run-length, run-registers}
 use Rattle.arm_machine.specs.declared.Started.{Started}
 use Rattle.gutilamboy_numbers.specs.Numbers.{stateWords}
 use Rattle.gutilamboy_numbers.specs.NumberLaws.{state-back}
-use Rattle.gutilamboy.specs.Calls.{left, ofStart, runCall, translateLeft, translateCall}
+use Rattle.gutilamboy.specs.Calls.{left, ofStart, steppedWords, ranWords, handed, svc-count, runCall, translateLeft, translateCall}
 use Rattle.theorem_simulation.specs.Demand3.{Each, D, N, Lent, Call, step, run, Called, call, calls, started, Answered, EndsBy, Demand3}
 use Rattle.theorem_simulation.specs.Iterated.{most, call-is-run}
 use Rattle.theorem_simulation.specs.Demand4.{Alike, Both}
@@ -31,10 +39,20 @@ count-words (run n) a = a .count ∷ []
 abbrev answer-words : Call → Called → List ℕ
 answer-words k a = a .status ∷ a .number ∷ count-words k a
 
+-- where nothing completed, the words that came are those of the state after, which is the state before
+handed-is : (m m′ : Machine) (b : Bool) → (b ≡ false → m′ ≡ m) → handed b m′ (stateWords m) ≡ stateWords m′
+handed-is m m′ b f = by-test (λ t. (t ≡ false → m′ ≡ m) → handed t m′ (stateWords m) ≡ stateWords m′) b (λ _ _. refl) (λ _ f. ap stateWords (sym (f refl))) f
+
 exported-is : (code : List ℕ) (k : Call) (w : List ℕ) (m : Machine) → length (m .regs) ≡ 8
     → let a = call code k w m in exported code k w (stateWords m) ≡ left (answer-words k a) (stateWords (a .machine)) (a .words)
-exported-is code step w m r = rw (state-back m r)
-exported-is code (run n) w m r = rw (state-back m r)
+exported-is code step w m r =
+    let a = stepOf code w m .after in
+    rw (state-back m r) (ap (λ (s : List ℕ). left (steppedWords (a .state)) s (a .words))
+    (handed-is m (a .state .machine) (eqb (a .state .status) 0) (λ e. step-kept code w m (omega (arith, eqb-false (a .state .status) 0 e)) .0)))
+exported-is code (run n) w m r =
+    let a = runOf n code w m in
+    rw (state-back m r) (ap (λ (s : List ℕ). left (ranWords (a .state)) s (a .words))
+    (handed-is m (a .state .machine) (ltb (svc-count (a .state .status)) (a .state .count)) (λ e. run-still n code w m (ltb-false (svc-count (a .state .status)) (a .state .count) e))))
 
 call-registers : (code : List ℕ) (k : Call) (w : List ℕ) (m : Machine) → length (call code k w m .machine .regs) ≡ length (m .regs)
 call-registers code k w m = ap (λ (a : Called). length (a .machine .regs)) (call-is-run code k w m) ∙ run-registers (most k) code w m

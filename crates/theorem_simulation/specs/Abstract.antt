@@ -9,6 +9,7 @@ use lib.Dec.{ltb, leb, eqb}
 use lib.Bits.{bitAnd, bitOr, bitXor}
 use Rattle.arm_word.specs.Choice.{pick}
 use Rattle.arm_word.specs.Word.{add, sub, mul, complement, shift-left, shift-right}
+use Rattle.arm_word.specs.Carry.{sum-word}
 use Rattle.arm_word.specs.Access.{Access, loaded, stored}
 use Rattle.arm_encoding.specs.declared.Instr.{Instr}
 use Rattle.arm_encoding.specs.declared.Instr.the-variants.{Shli, Shri, Ashri, Addr, Subr, Movi, Addi, Subi, Ldrpci, Strspi, Ldrspi, Addpci, Addspi, Andr, Xorr, Shl, Shr, Negr, Orr, Mul}
@@ -73,6 +74,10 @@ note false l a = l
 abbrev pub results : ℕ → ℕ → Abstract → Option Abstract
 results d v (machine pc r sp ct m l) = some (machine (pc + 2) (set r d v) sp (tests v ct) m l)
 
+-- what SUBR, SUBI and NEGR give: the sum with the complement and a carry in
+abbrev pub difference : ℕ → ℕ → ℕ
+difference x y = sum-word x (complement y) true
+
 -- `array k`: data word k is an array's
 abbrev pub loads : (ℕ → Bool) → ℕ → ℕ → Abstract → Option Abstract
 loads array d a (machine pc r sp ct m l) =
@@ -104,10 +109,10 @@ performs array (Shli n l d) (machine pc r sp ct m t) = results d (shift-left (ge
 performs array (Shri n l d) (machine pc r sp ct m t) = results d (shift-right (get r l) n) (machine pc r sp ct m t)
 performs array (Ashri n l d) (machine pc r sp ct m t) = none
 performs array (Addr i l d) (machine pc r sp ct m t) = results d (add (get r l) (get r i)) (machine pc r sp ct m t)
-performs array (Subr i l d) (machine pc r sp ct m t) = results d (sub (get r l) (get r i)) (machine pc r sp ct m t)
+performs array (Subr i l d) (machine pc r sp ct m t) = results d (difference (get r l) (get r i)) (machine pc r sp ct m t)
 performs array (Movi d u) (machine pc r sp ct m t) = results d u (machine pc r sp ct m t)
 performs array (Addi d u) (machine pc r sp ct m t) = results d (add (get r d) u) (machine pc r sp ct m t)
-performs array (Subi d u) (machine pc r sp ct m t) = results d (sub (get r d) u) (machine pc r sp ct m t)
+performs array (Subi d u) (machine pc r sp ct m t) = results d (difference (get r d) u) (machine pc r sp ct m t)
 performs array (Ldrpci d u) (machine pc r sp ct m t) = none
 performs array (Strspi d u) (machine pc r sp ct m t) = stores array (get r d) (add sp (4 * u)) (machine pc r sp ct m t)
 performs array (Ldrspi d u) (machine pc r sp ct m t) = loads array d (add sp (4 * u)) (machine pc r sp ct m t)
@@ -117,7 +122,7 @@ performs array (Andr i d) (machine pc r sp ct m t) = results d (bitAnd (get r d)
 performs array (Xorr i d) (machine pc r sp ct m t) = results d (bitXor (get r d) (get r i)) (machine pc r sp ct m t)
 performs array (Shl i d) (machine pc r sp ct m t) = results d (shift-left (get r d) (get r i % 256)) (machine pc r sp ct m t)
 performs array (Shr i d) (machine pc r sp ct m t) = results d (shift-right (get r d) (get r i % 256)) (machine pc r sp ct m t)
-performs array (Negr i d) (machine pc r sp ct m t) = results d (sub 0 (get r i)) (machine pc r sp ct m t)
+performs array (Negr i d) (machine pc r sp ct m t) = results d (difference 0 (get r i)) (machine pc r sp ct m t)
 performs array (Orr i d) (machine pc r sp ct m t) = results d (bitOr (get r d) (get r i)) (machine pc r sp ct m t)
 performs array (Mul i d) (machine pc r sp ct m t) = results d (mul (get r d) (get r i)) (machine pc r sp ct m t)
 performs array (Mvnr i d) (machine pc r sp ct m t) = results d (complement (get r i)) (machine pc r sp ct m t)

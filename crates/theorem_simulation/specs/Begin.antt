@@ -14,7 +14,7 @@ use Rattle.x_meaning.specs.SourceRun.{going, execute, begin}
 use Rattle.translate_rules.specs.InstructionBytes.{bytes-of, bytes}
 use Rattle.translate_rules.specs.ImageCode.{process-code, image-code, image}
 use Rattle.translate_rules.specs.Encodable.{Encodable, image-encodable}
-use Rattle.arm_state.specs.State.{base, needed, freshOf}
+use Rattle.arm_state.specs.State.{base, needed, no-flags, freshOf}
 use Rattle.arm_machine.specs.Placed.{once-in}
 use Rattle.x_program.specs.Sound.{Sound}
 use Rattle.x_program.specs.SoundTree.{sound-resolved}
@@ -81,8 +81,9 @@ setting p = record { declarations = p .declarations; code = image p; stack = 2 *
 abbrev pub first-point : Program → List ℕ → Point
 first-point p memory = record { state = freshOf (D p) (N p); words = memory; trace = [] }
 
+-- no result yet, and Z is clear
 abbrev first-control : Control
-first-control = record { tested = 0; link = 0 }
+first-control = record { tested = 1; link = 0 }
 
 -- the abstract machine at first, by the declared words: all that it knows of memory
 abbrev pub abstract-of : Program → List ℕ → Abstract
@@ -140,7 +141,8 @@ module _ (p : Program) (sound : Sound p) (short : length (image p) ≤ 65536) (m
   pub first-matches : Matches (setting p) memory (abstract-of p (take (D p) memory)) (first-point p memory)
   unfolding freshOf address
   first-matches = record {
-    is = ap (λ (sp : ℕ). record { regs = registers 0 0 0 0; sp = sp; lr = 0; pc = 0; rs = 0 }) sp-is;
+    flags = no-flags;
+    is = ap (λ (sp : ℕ). record { regs = registers 0 0 0 0; sp = sp; lr = 0; pc = 0; flags = no-flags }) sp-is;
     trace = refl;
     agrees = record {
       same = λ i v e.

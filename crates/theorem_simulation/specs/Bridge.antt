@@ -12,22 +12,24 @@ use lib.Dec.{ltb, leb, eqb}
 use borrow.Author.Tests.{lt-ltb, lt-leb, ltb-true, leb-true}
 use Rattle.arm_word.specs.Choice.{pick}
 use Rattle.arm_word.specs.Word.{add}
+use Rattle.arm_word.specs.CarryLaws.{sum-plain}
 use Rattle.arm_word.specs.Access.{Access, loaded, stored}
 use Rattle.arm_encoding.specs.declared.Instr.{Instr}
 use Rattle.arm_encoding.specs.declared.Instr.the-variants.{Shli, Shri, Ashri, Addr, Subr, Movi, Addi, Subi, Ldrpci, Strspi, Ldrspi, Addpci, Addspi, Andr, Xorr, Shl, Shr, Negr, Orr, Mul}
 use Rattle.arm_encoding.specs.declared.Instr.the-variants.{Mvnr, Str, Ldr}
 use Rattle.arm_encoding.specs.declared.Instr.the-variants.{Stri, Ldri, Incsp, Decsp, Svc, Beq, Bne, Bge, Blt, Bu, Bl}
-use Rattle.arm_state.specs.State.{base, next, takes, result, moves, jump, branch, link}
+use Rattle.arm_state.specs.State.{base, next, takes, result, flagsOf, moves, jump, branch, link}
 use Rattle.arm_state.specs.Effects as real
 use Rattle.arm_state.specs.Effects.{Effect, done, after, slotOf, executeOf}
+use Rattle.arm_state.specs.declared.Flags.{Flags}
 use Rattle.arm_state.specs.declared.Machine.{Machine}
 use Rattle.arm_machine.specs.Trace.{listed}
 use Rattle.theorem_simulation.specs.Demand3.{Each}
-use Rattle.theorem_simulation.specs.Abstract.{get, Control, Abstract, machine, memory-of, trace-of, word-at, with-word, old-word, note, target, performs}
+use Rattle.theorem_simulation.specs.Abstract.{get, Control, tests, Abstract, machine, memory-of, trace-of, word-at, with-word, old-word, note, target, performs}
 
--- the machine's state of an abstract one
-abbrev pub concrete : Abstract → Machine
-concrete (machine pc r sp ct m l) = record { regs = r; sp = sp; lr = ct .link; pc = pc; rs = ct .tested }
+-- the machine's state of an abstract one, which knows Z alone of the flags: the others are f's
+abbrev pub concrete : Abstract → Flags → Machine
+concrete (machine pc r sp ct m l) f = record { regs = r; sp = sp; lr = ct .link; pc = pc; flags = record { n = f .n; z = eqb (ct .tested) 0; c = f .c; v = f .v } }
 
 -- words w agree with the memory m where it is known, and past it with the words that there were at first
 pub record Agrees (first : List ℕ) (m : List (Option ℕ)) (w : List ℕ) : Type 0 where
@@ -42,8 +44,9 @@ Within n = Each (λ a. a .offset < n)
 
 -- an effect that takes the machine to what the abstract machine with n words came to, m, from the trace l
 pub record Follows (array : ℕ → Bool) (first : List ℕ) (n : ℕ) (l : List Access) (m : Abstract) (o : Effect) : Type 0 where
+  pub flags : Flags
   pub words : List ℕ
-  pub is : o .after ≡ after (done (concrete m)) words
+  pub is : o .after ≡ after (done (concrete m flags)) words
   pub agrees : Agrees first (memory-of m) words
   pub trace : l ++ listed array (o .access) ≡ trace-of m
   pub size : length (memory-of m) ≡ n
@@ -114,102 +117,108 @@ next-pc pc h = omega arith
 
 module _ (array : ℕ → Bool) (first c : List ℕ) (short : length c ≤ 65536) where
   -- no access: the state alone
-  keeps : (s z : Abstract) (w : List ℕ) (l : List Access) {o : Effect} → Agrees first (memory-of s) w → some s ≡ some z → l ≡ trace-of s → o ≡ real.goes w (concrete s)
+  keeps : (s z : Abstract) (w : List ℕ) (f : Flags) (l : List Access) {o : Effect} → Agrees first (memory-of s) w → some s ≡ some z → l ≡ trace-of s → o ≡ real.goes w (concrete s f)
       → Follows array first (length (memory-of s)) l z o
   unfolding listed
-  keeps s z w l a e t h =
+  keeps s z w f l a e t h =
       let x : s ≡ z = cc in
-      rw (← x, h) (record { words = w; is = refl; agrees = a; trace = append-nil l ∙ t; size = refl; within = tt })
+      rw (← x, h) (record { flags = f; words = w; is = refl; agrees = a; trace = append-nil l ∙ t; size = refl; within = tt })
 
-  module _ (pc : ℕ) (r : List ℕ) (sp : ℕ) (ct : Control) (m : List (Option ℕ)) (l : List Access) (z : Abstract) (w : List ℕ) (a : Agrees first m w) (p : pc ≤ 65536) where
+  module _ (pc : ℕ) (r : List ℕ) (sp : ℕ) (ct : Control) (m : List (Option ℕ)) (l : List Access) (z : Abstract) (w : List ℕ) (f : Flags) (a : Agrees first m w) (p : pc ≤ 65536) where
     abbrev now : Abstract
     now = machine pc r sp ct m l
 
     load-follows : (d ad : ℕ) → with-word (word-at (length m) ad) (λ k. with-word (getD m k none) (λ v. some (machine (pc + 2) (set r d v) sp ct m (note (array k) l (loaded k v))))) ≡ some z
-        → Follows array first (length m) l z (real.load c w (concrete now) d ad)
+        → Follows array first (length m) l z (real.load c w (concrete now f) d ad)
     unfolding real.load takes slotOf
     load-follows d ad e = by (word-at (length m) ad) refl e
       where
         known : (k : ℕ) (u : Option ℕ) → getD m k none ≡ u → Reaches (length m) ad k → with-word u (λ v. some (machine (pc + 2) (set r d v) sp ct m (note (array k) l (loaded k v)))) ≡ some z
-            → Follows array first (length m) l z (real.load c w (concrete now) d ad)
+            → Follows array first (length m) l z (real.load c w (concrete now f) d ad)
         known k none h o e = let x : _≡_ {A = ℕ} 0 1 = cc (e) in absurd (omega arith)
         known k (some v) h o e =
             let x : machine (pc + 2) (set r d v) sp ct m (note (array k) l (loaded k v)) ≡ z = cc in
             rw (← x, o .aligned, past-code o (length c) short, o .low, in-words o (length w) (a .enough), o .word, a .same k v h, next-pc pc p)
-            (record { words = w; is = refl; agrees = a; trace = listed-one array l (loaded k v); size = refl; within = (below o, tt) })
+            (record { flags = f; words = w; is = refl; agrees = a; trace = listed-one array l (loaded k v); size = refl; within = (below o, tt) })
 
         by : (x : Option ℕ) → word-at (length m) ad ≡ x → with-word x (λ k. with-word (getD m k none) (λ v. some (machine (pc + 2) (set r d v) sp ct m (note (array k) l (loaded k v))))) ≡ some z
-            → Follows array first (length m) l z (real.load c w (concrete now) d ad)
+            → Follows array first (length m) l z (real.load c w (concrete now f) d ad)
         by (some k) h e = known k (getD m k none) refl (reaches (length m) ad k h) e
         by none h e = let x : _≡_ {A = ℕ} 0 1 = cc (e) in absurd (omega arith)
 
     store-follows : (d ad : ℕ)
         → with-word (word-at (length m) ad)
         (λ k. old-word (array k) (getD m k none) (λ v. some (machine (pc + 2) r sp ct (set m k (some (get r d))) (note (array k) l (stored k v (get r d)))))) ≡ some z
-        → Follows array first (length m) l z (real.store w (concrete now) d ad)
+        → Follows array first (length m) l z (real.store w (concrete now f) d ad)
     unfolding real.store next slotOf
     store-follows d ad e = by (word-at (length m) ad) refl e
       where
         put-it : (k : ℕ) (y : List Access) → Reaches (length m) ad k → l ++ listed array (stored k (getD w k 0) (get r d) ∷ []) ≡ y
             → some (machine (pc + 2) r sp ct (set m k (some (get r d))) y) ≡ some z
-            → Follows array first (length m) l z (real.store w (concrete now) d ad)
+            → Follows array first (length m) l z (real.store w (concrete now f) d ad)
         put-it k y o t e =
             let s : machine (pc + 2) r sp ct (set m k (some (get r d))) y ≡ z = cc (e) in
             rw (← s, o .aligned, o .low, in-words o (length w) (a .enough), o .word, next-pc pc p)
-            (record { words = set w k (get r d); is = refl; agrees = agrees-set k (get r d) (below o) a; trace = t; size = length-set m k (some (get r d)); within = (below o, tt) })
+            (record { flags = f; words = set w k (get r d); is = refl; agrees = agrees-set k (get r d) (below o) a; trace = t; size = length-set m k (some (get r d)); within = (below o, tt) })
 
         known : (k : ℕ) (b : Bool) (u : Option ℕ) → array k ≡ b → getD m k none ≡ u → Reaches (length m) ad k
             → old-word b u (λ v. some (machine (pc + 2) r sp ct (set m k (some (get r d))) (note b l (stored k v (get r d))))) ≡ some z
-            → Follows array first (length m) l z (real.store w (concrete now) d ad)
+            → Follows array first (length m) l z (real.store w (concrete now f) d ad)
         known k true none q h o e = let x : _≡_ {A = ℕ} 0 1 = cc (e) in absurd (omega arith)
         known k true (some v) q h o e = put-it k (l ++ stored k v (get r d) ∷ []) o (rw (a .same k v h) (listed-one array l (stored k v (get r d)) ∙ rw q refl)) e
         known k false u q h o e = put-it k l o (listed-one array l (stored k (getD w k 0) (get r d)) ∙ rw q refl) e
 
         by : (x : Option ℕ) → word-at (length m) ad ≡ x
             → with-word x (λ k. old-word (array k) (getD m k none) (λ v. some (machine (pc + 2) r sp ct (set m k (some (get r d))) (note (array k) l (stored k v (get r d)))))) ≡ some z
-            → Follows array first (length m) l z (real.store w (concrete now) d ad)
+            → Follows array first (length m) l z (real.store w (concrete now f) d ad)
         by (some k) h e = known k (array k) (getD m k none) refl refl (reaches (length m) ad k h) e
         by none h e = let x : _≡_ {A = ℕ} 0 1 = cc (e) in absurd (omega arith)
 
-    branch-follows : (b : Bool) (k : ℕ) → some (machine (pick b (target pc k) (pc + 2)) r sp ct m l) ≡ some z → Follows array first (length m) l z (real.goes w (branch (concrete now) b k))
+    branch-follows : (b : Bool) (k : ℕ) → some (machine (pick b (target pc k) (pc + 2)) r sp ct m l) ≡ some z → Follows array first (length m) l z (real.goes w (branch (concrete now f) b k))
     unfolding branch jump next
-    branch-follows true k e = keeps _ z w l a e refl refl
-    branch-follows false k e = keeps _ z w l a e refl (rw (next-pc pc p))
+    branch-follows true k e = keeps _ z w f l a e refl refl
+    branch-follows false k e = keeps _ z w f l a e refl (rw (next-pc pc p))
+
+    -- a result, C and V being what they may
+    result-follows : (d v : ℕ) (k o : Bool) → some (machine (pc + 2) (set r d v) sp (tests v ct) m l) ≡ some z
+        → Follows array first (length m) l z (real.goes w (result (concrete now f) d v (flagsOf v k o)))
+    unfolding result
+    result-follows d v k o e = keeps _ z w (flagsOf v k o) l a e refl (rw (next-pc pc p))
 
     -- one instruction
-    pub execute-follows : (i : Instr) → performs array i now ≡ some z → Follows array first (length m) l z (executeOf c w (concrete now) i)
-    unfolding executeOf result moves link
-    execute-follows (Shli n x d) e = keeps _ z w l a e refl (rw (next-pc pc p))
-    execute-follows (Shri n x d) e = keeps _ z w l a e refl (rw (next-pc pc p))
+    pub execute-follows : (i : Instr) → performs array i now ≡ some z → Follows array first (length m) l z (executeOf c w (concrete now f) i)
+    unfolding executeOf moves link
+    execute-follows (Shli n x d) e = result-follows d _ _ _ e
+    execute-follows (Shri n x d) e = result-follows d _ _ _ e
     execute-follows (Ashri n x d) e = let x : _≡_ {A = ℕ} 0 1 = cc (e) in absurd (omega arith)
-    execute-follows (Addr i x d) e = keeps _ z w l a e refl (rw (next-pc pc p))
-    execute-follows (Subr i x d) e = keeps _ z w l a e refl (rw (next-pc pc p))
-    execute-follows (Movi d u) e = keeps _ z w l a e refl (rw (next-pc pc p))
-    execute-follows (Addi d u) e = keeps _ z w l a e refl (rw (next-pc pc p))
-    execute-follows (Subi d u) e = keeps _ z w l a e refl (rw (next-pc pc p))
+    execute-follows (Addr i x d) e = rw (sum-plain (get r x) (get r i)) (result-follows d _ _ _ e)
+    execute-follows (Subr i x d) e = result-follows d _ _ _ e
+    execute-follows (Movi d u) e = result-follows d _ _ _ e
+    execute-follows (Addi d u) e = rw (sum-plain (get r d) u) (result-follows d _ _ _ e)
+    execute-follows (Subi d u) e = result-follows d _ _ _ e
     execute-follows (Ldrpci d u) e = let x : _≡_ {A = ℕ} 0 1 = cc (e) in absurd (omega arith)
     execute-follows (Strspi d u) e = store-follows d (add sp (4 * u)) e
     execute-follows (Ldrspi d u) e = load-follows d (add sp (4 * u)) e
     execute-follows (Addpci d u) e = let x : _≡_ {A = ℕ} 0 1 = cc (e) in absurd (omega arith)
     execute-follows (Addspi d u) e = let x : _≡_ {A = ℕ} 0 1 = cc (e) in absurd (omega arith)
-    execute-follows (Andr i d) e = keeps _ z w l a e refl (rw (next-pc pc p))
-    execute-follows (Xorr i d) e = keeps _ z w l a e refl (rw (next-pc pc p))
-    execute-follows (Shl i d) e = keeps _ z w l a e refl (rw (next-pc pc p))
-    execute-follows (Shr i d) e = keeps _ z w l a e refl (rw (next-pc pc p))
-    execute-follows (Negr i d) e = keeps _ z w l a e refl (rw (next-pc pc p))
-    execute-follows (Orr i d) e = keeps _ z w l a e refl (rw (next-pc pc p))
-    execute-follows (Mul i d) e = keeps _ z w l a e refl (rw (next-pc pc p))
-    execute-follows (Mvnr i d) e = keeps _ z w l a e refl (rw (next-pc pc p))
+    execute-follows (Andr i d) e = result-follows d _ _ _ e
+    execute-follows (Xorr i d) e = result-follows d _ _ _ e
+    execute-follows (Shl i d) e = result-follows d _ _ _ e
+    execute-follows (Shr i d) e = result-follows d _ _ _ e
+    execute-follows (Negr i d) e = result-follows d _ _ _ e
+    execute-follows (Orr i d) e = result-follows d _ _ _ e
+    execute-follows (Mul i d) e = result-follows d _ _ _ e
+    execute-follows (Mvnr i d) e = result-follows d _ _ _ e
     execute-follows (Str i b d) e = store-follows d (add (get r b) (get r i)) e
     execute-follows (Ldr i b d) e = load-follows d (add (get r b) (get r i)) e
     execute-follows (Stri u b d) e = let x : _≡_ {A = ℕ} 0 1 = cc (e) in absurd (omega arith)
     execute-follows (Ldri u b d) e = let x : _≡_ {A = ℕ} 0 1 = cc (e) in absurd (omega arith)
-    execute-follows (Incsp u) e = keeps _ z w l a e refl (rw (next-pc pc p))
-    execute-follows (Decsp u) e = keeps _ z w l a e refl (rw (next-pc pc p))
+    execute-follows (Incsp u) e = keeps _ z w f l a e refl (rw (next-pc pc p))
+    execute-follows (Decsp u) e = keeps _ z w f l a e refl (rw (next-pc pc p))
     execute-follows (Svc u) e = let x : _≡_ {A = ℕ} 0 1 = cc (e) in absurd (omega arith)
     execute-follows (Beq k) e = branch-follows (eqb (ct .tested) 0) k e
     execute-follows (Bne k) e = branch-follows (not (eqb (ct .tested) 0)) k e
     execute-follows (Bge k) e = let x : _≡_ {A = ℕ} 0 1 = cc (e) in absurd (omega arith)
     execute-follows (Blt k) e = let x : _≡_ {A = ℕ} 0 1 = cc (e) in absurd (omega arith)
     execute-follows (Bu k) e = let x : _≡_ {A = ℕ} 0 1 = cc (e) in absurd (omega arith)
-    execute-follows (Bl k) e = keeps _ z w l a e refl refl
+    execute-follows (Bl k) e = keeps _ z w f l a e refl refl

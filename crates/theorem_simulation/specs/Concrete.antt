@@ -10,6 +10,7 @@ use borrow.Author.Tests.{eqb-true}
 use Rattle.arm_word.specs.Access.{Access}
 use Rattle.x_meaning.specs.SourceRun.{End, going, finish, bad-subscript, State, move, moves, ends-with}
 use Rattle.arm_state.specs.Effects.{After, after, Effect, done, ended, stops, executeOf}
+use Rattle.arm_state.specs.declared.Flags.{Flags}
 use Rattle.arm_state.specs.declared.Machine.{Machine}
 use Rattle.arm_machine.specs.Step.{onceOf}
 use Rattle.arm_machine.specs.Trace.{listed}
@@ -71,7 +72,8 @@ pub record Seen (E : Setting) (first : List ℕ) (s : State) (x : Point) : Type 
 
 -- a point of the machine stands for a state of the abstract machine
 pub record Matches (E : Setting) (first : List ℕ) (m : Abstract) (x : Point) : Type 0 where
-  pub is : x .state ≡ concrete m
+  pub flags : Flags
+  pub is : x .state ≡ concrete m flags
   pub trace : x .trace ≡ trace-of m
   pub agrees : Agrees first (memory-of m) (x .words)
   pub whole : length (memory-of m) ≡ data-of E + E .stack
@@ -103,13 +105,14 @@ module _ (E : Setting) (ok : Limits E) (first : List ℕ) where
   pub carried : (m m₁ : Abstract) (x : Point) → Matches E first m x → Goes (array-of E) (E .code) m m₁ → Carried m₁ x
   carried (machine pc r sp ct mem l) m₁ x mt g =
       let i = g .instruction in
-      let f = execute-follows (array-of E) first (E .code) (ok .short-code) pc r sp ct mem l m₁ (x .words) (mt .agrees) (omega (arith, g .holds .inside, ok .short-code)) i (g .does) in
-      let at : effect-at E x ≡ executeOf (E .code) (x .words) (concrete (machine pc r sp ct mem l)) i
+      let f = execute-follows (array-of E) first (E .code) (ok .short-code) pc r sp ct mem l m₁ (x .words) (mt .flags) (mt .agrees) (omega (arith, g .holds .inside, ok .short-code)) i (g .does) in
+      let at : effect-at E x ≡ executeOf (E .code) (x .words) (concrete (machine pc r sp ct mem l) (mt .flags)) i
       = g .holds .runs (x .words) (x .state) (ap (λ (m : Machine). m .pc) (mt .is)) ∙ ap (λ (m : Machine). executeOf (E .code) (x .words) m i) (mt .is) in
-      let is : effect-at E x .after ≡ after (done (concrete m₁)) (f .words) = ap (λ (e : Effect). e .after) at ∙ f .is in
+      let is : effect-at E x .after ≡ after (done (concrete m₁ (f .flags))) (f .words) = ap (λ (e : Effect). e .after) at ∙ f .is in
       record {
         completes = record { status = ap (λ (a : After). a .state .status) is; within = rw (at, ← (mt .whole)) (f .within) };
         matches = record {
+          flags = f .flags;
           is = ap (λ (a : After). a .state .machine) is;
           trace = rw (mt .trace, at) (f .trace);
           agrees = rw (ap (λ (a : After). a .words) is) (f .agrees);

@@ -17,7 +17,7 @@ use Rattle.translate_rules.specs.InstructionBytes.{bytes-of, bytes, size}
 use Rattle.translate_rules.specs.Constant.{load-constant}
 use Rattle.translate_rules.specs.Blocks.{push-constant, push-variable, check-subscript, less-than, work-diadic-code, assign-variable, store-element, take-condition, jump-over, jump-back}
 use Rattle.translate_rules.specs.ImageCode.{expression-code, repeat-code, process-code, image-code, image}
-use Rattle.arm_state.specs.State.{next, takes, result, jump, branch, link, freshOf}
+use Rattle.arm_state.specs.State.{no-flags, next, takes, result, jump, branch, link, freshOf}
 use Rattle.arm_state.specs.State as state
 use Rattle.arm_state.specs.Effects as exec
 use Rattle.arm_state.specs.Effects.{Effect, slotOf, executeOf}
@@ -67,7 +67,7 @@ unfolding five data-words
 five-needs memory l = (l .enough, l .few)
 
 -- start: sp is 0x20000034, r7 0x20000000, all else 0
-five-starts : startOf (image five) lent-words 1 2 ≡ record { status = 0; machine = record { regs = 0 ∷ 0 ∷ 0 ∷ 0 ∷ 0 ∷ 0 ∷ 0 ∷ 0x20000000 ∷ []; sp = 0x20000034; lr = 0; pc = 0; rs = 0 } }
+five-starts : startOf (image five) lent-words 1 2 ≡ record { status = 0; machine = record { regs = 0 ∷ 0 ∷ 0 ∷ 0 ∷ 0 ∷ 0 ∷ 0 ∷ 0x20000000 ∷ []; sp = 0x20000034; lr = 0; pc = 0; flags = no-flags } }
 unfolding five data-words freshOf
 five-starts = five-demand .starts
 

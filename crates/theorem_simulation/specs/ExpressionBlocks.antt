@@ -8,7 +8,8 @@ use native.Mathlib.Omega.{arith}
 use native.Mathlib.Decide.{decLt}
 use lib.ListN.{getD, set, length}
 use borrow.Author.Tests.{lt-ltb, le-ltb}
-use Rattle.arm_word.specs.Word.{modulus, add, sub, shift-left, shift-right}
+use Rattle.arm_word.specs.Word.{modulus, add, shift-left, shift-right}
+use Rattle.arm_word.specs.CarryLaws.{difference-word}
 use Rattle.arm_word.specs.Access.{Access, loaded}
 use Rattle.x_program.specs.Tree.{Monadic, negate, invert, Diadic, Variable, Array, Expression, constant, variable, element, monadic, diadic, bracket}
 use Rattle.x_program.specs.Core.{core}
@@ -17,7 +18,7 @@ use Rattle.x_meaning.specs.SourceRun.{Item, evaluate, work₁, work₂, check, 
 use Rattle.translate_rules.specs.Constant.{load-constant}
 use Rattle.translate_rules.specs.Blocks.{push-constant, push-variable, check-subscript, load-element, monadic-instruction, work-monadic-code, diadic-instructions, work-diadic-code}
 use Rattle.translate_rules.specs.ImageCode.{expression-code}
-use Rattle.theorem_simulation.specs.Abstract.{registers, Control, tests, machine, performs, width}
+use Rattle.theorem_simulation.specs.Abstract.{difference, registers, Control, tests, machine, performs, width}
 use Rattle.theorem_simulation.specs.Straight.{At, nil, _▸_, advance, head-at, tail-at, first-at, rest-at, advance-append, here, more, go, join, address, load-stack, store-stack, raise-stack}
 use Rattle.theorem_simulation.specs.Straight.{lower-stack, load-data, equal-taken, equal-passed, unequal-taken, unequal-passed, constant-0, constant-1}
 use Rattle.theorem_simulation.specs.Working.{Makes, diadic-run, diadic-fits, monadic-fits}
@@ -175,7 +176,7 @@ module _ {E : Setting} (ok : Limits E) (d : List ℕ) (t : List Access) (c : Lis
     where
       working : (o : Monadic) → performs (array-of E) (monadic-instruction o) (machine (pc + 2) (registers x b g r3) (address k) ct mem t)
           ≡ some (machine (pc + 2 + width (monadic-instruction o)) (registers (work-monadic o x) b g r3) (address k) (tests (work-monadic o x) ct) mem t)
-      working negate = refl
+      working negate = rw (difference-word 0 x (mr .words k x (mr .stacked .0)))
       working invert = refl
 
   pub of-work₂ : (o : Diadic) (x y : ℕ) (p : List ℕ) → At (E .code) pc (work-diadic-code o) → Here (work₂ o) (y ∷ x ∷ p)
@@ -244,7 +245,7 @@ module _ {E : Setting} (ok : Limits E) (d : List ℕ) (t : List Access) (c : Lis
       let q : Good E s (address k) mem t = good ok k 0 refl (mr .same) (mr .low) (omega arith) in
       let at′ = rest-at (load-constant 1 n) _ at in
       let s₁ : i / 16384 ≡ 0 = omega arith in
-      let s₂ : 0 < sub i n / 2147483648 = omega arith in
+      let s₂ : 0 < difference i n / 2147483648 = omega arith in
       let pk = advance (load-constant 1 n) (pc + 2 + 2 + 2 + 2) in
       record {
         n = _;
@@ -288,7 +289,7 @@ module _ {E : Setting} (ok : Limits E) (d : List ℕ) (t : List Access) (c : Lis
       let q : Good E s (address k) mem t = good ok k 0 refl (mr .same) (mr .low) (omega arith) in
       let at′ = rest-at (load-constant 1 n) _ at in
       let s₁ : i / 16384 ≡ 0 = omega arith in
-      let s₂ : sub i n / 2147483648 ≡ 0 = omega arith in
+      let s₂ : difference i n / 2147483648 ≡ 0 = omega arith in
       record {
         n = _;
         z = _;

@@ -1,5 +1,5 @@
 -- The working of a diadic operator: the code of each leaves in r0 what the operator makes of r0 and r1. Lemmas; they rest on Straight and on meaning's Operators.
-use mathlib.Core.Path.{_≡_, refl, sym, ap}
+use mathlib.Core.Path.{_≡_, refl, sym, ap, _∙_}
 use mathlib.Core.Bool.{Bool, true, false, not}
 use mathlib.Core.Option.{Option, some}
 use mathlib.Core.List.{List, [], _∷_, _++_}
@@ -12,6 +12,7 @@ use lib.Bits.{bitAnd, bitOr, bitXor, and-lt, or-lt, xor-lt}
 use borrow.Author.Tests.{lt-ltb, le-ltb, eq-eqb, ne-eqb}
 use Rattle.arm_word.specs.Choice.{pick}
 use Rattle.arm_word.specs.Word.{modulus, sign, truth, add, sub, mul, complement, shift-left, shift-right, signed-less}
+use Rattle.arm_word.specs.CarryLaws.{difference-word}
 use Rattle.arm_word.specs.WordLaws.{shift-left-fits, shift-right-fits}
 use Rattle.arm_word.specs.Access.{Access}
 use Rattle.arm_encoding.specs.declared.Instr.{Instr}
@@ -19,7 +20,7 @@ use Rattle.arm_encoding.specs.declared.Instr.the-variants.{Shri, Addr, Subr, Mo
 use Rattle.x_program.specs.Tree.{Monadic, negate, invert, Diadic, plus, minus, times, bit-and, bit-or, bit-xor, right, left, equal, unequal, less, at-most, greater, at-least}
 use Rattle.x_meaning.specs.Operators.{work-monadic, work-diadic}
 use Rattle.translate_rules.specs.Blocks.{less-than, far-shift, diadic-instructions}
-use Rattle.theorem_simulation.specs.Abstract.{registers, Control, tests, get, machine, performs, width}
+use Rattle.theorem_simulation.specs.Abstract.{difference, registers, Control, tests, get, machine, performs, width}
 use Rattle.theorem_simulation.specs.Straight.{At, nil, _▸_, Holds, advance, head-at, first-at, rest-at, advance-append, Goes, Path, here, more, go, join, equal-taken, equal-passed}
 use Rattle.theorem_simulation.specs.Straight.{unequal-taken}
 use Rattle.theorem_simulation.specs.Straight.{unequal-passed}
@@ -72,11 +73,11 @@ truth-fits : (b : Bool) → truth b < modulus
 truth-fits true = omega arith
 truth-fits false = omega arith
 
-equal-value : (b : Bool) → truth b ≡ pick b (sub 0 1) (sub 1 1)
+equal-value : (b : Bool) → truth b ≡ pick b (difference 0 1) (difference 1 1)
 equal-value true = refl
 equal-value false = refl
 
-unequal-value : (b : Bool) → truth (not b) ≡ pick b (sub 0 0) (sub 0 1)
+unequal-value : (b : Bool) → truth (not b) ≡ pick b (difference 0 0) (difference 0 1)
 unequal-value true = refl
 unequal-value false = refl
 
@@ -126,8 +127,9 @@ module _ {array : ℕ → Bool} {code : List ℕ} {pc sp : ℕ} {ct : Control} {
   unfolding shift-right
   sign-of i u f e = go f (rw e)
 
-  difference : (i j u v : ℕ) → Holds code pc (Subr j i d) → get r i ≡ u → get r j ≡ v → Goes array code (machine pc r sp ct mem l) (machine (pc + 2) (set r d (sub u v)) sp (tests (sub u v) ct) mem l)
-  difference i j u v f e e′ = go f (rw (e, e′))
+  difference-of : (i j u v : ℕ) → Holds code pc (Subr j i d) → get r i ≡ u → get r j ≡ v → v < modulus
+      → Goes array code (machine pc r sp ct mem l) (machine (pc + 2) (set r d (sub u v)) sp (tests (sub u v) ct) mem l)
+  difference-of i j u v f e e′ h = go f (rw (e, e′, difference-word u v h))
 
 -- a run of some code that leaves v in r0, and what it likes in r1, r2, r3 and the control
 pub record Makes (array : ℕ → Bool) (code : List ℕ) (Q : ℕ → List (Option ℕ) → List Access → Type 0) (sp : ℕ) (mem : List (Option ℕ)) (l : List Access) (is : List Instr)
@@ -151,7 +153,7 @@ module _ {array : ℕ → Bool} {code : List ℕ} {Q : ℕ → List (Option ℕ)
     where
       by : Dec (u / sign ≡ v / sign) → Makes array code Q sp mem l (less-than i j) (truth (signed-less u v)) pc x y c r3 ct
       by (yes h) =
-          let z : sub (u / sign) (v / sign) ≡ 0 = omega arith in
+          let z : difference (u / sign) (v / sign) ≡ 0 = omega arith in
           record {
             a = _;
             b = _;
@@ -159,13 +161,13 @@ module _ {array : ℕ → Bool} {code : List ℕ} {Q : ℕ → List (Option ℕ)
             e = _;
             f = _;
             n = _;
-            value = less-same hu hv h;
+            value = difference-word 0 (sub u v / sign) (omega arith) ∙ less-same hu hv h;
             path = more q (sign-of (registers x y c r3) i u f₁ (gi c r3))
                 (more q (sign-of (registers x y (u / sign) r3) j v f₂ (gj (u / sign) r3)) (more q (go f₃ refl) (more q (unequal-passed fits f₄ z)
-                (more q (difference (registers x y (u / sign) (sub (u / sign) (v / sign))) i j u v f₅ (gi _ _) (gj _ _)) (more q (go f₆ refl) (more q (go f₇ refl) here))))));
+                (more q (difference-of (registers x y (u / sign) (difference (u / sign) (v / sign))) i j u v f₅ (gi _ _) (gj _ _) hv) (more q (go f₆ refl) (more q (go f₇ refl) here))))));
           }
       by (no h) =
-          let z : 0 < sub (u / sign) (v / sign) = omega arith in
+          let z : 0 < difference (u / sign) (v / sign) = omega arith in
           record {
             a = _;
             b = _;
@@ -173,7 +175,7 @@ module _ {array : ℕ → Bool} {code : List ℕ} {Q : ℕ → List (Option ℕ)
             e = _;
             f = _;
             n = _;
-            value = less-apart hu hv h;
+            value = difference-word 0 (u / sign) (omega arith) ∙ less-apart hu hv h;
             path = more q (sign-of (registers x y c r3) i u f₁ (gi c r3)) (more q (sign-of (registers x y (u / sign) r3) j v f₂ (gj (u / sign) r3)) (more q (go f₃ refl)
                 (more q (unequal-taken fits f₄ (pc + 2 + 2 + 2 + 2 + 2 + 2) (omega arith) z (omega arith)) (more q (go f₇ refl) here))));
           }
@@ -223,7 +225,7 @@ module _ {array : ℕ → Bool} {code : List ℕ} {Q : ℕ → List (Option ℕ)
     where
       by : Dec (x ≡ y) → Makes array code Q sp mem l (Subr 1 0 0 ∷ Beq 0 ∷ Movi 0 1 ∷ i ∷ []) (pick (eqb x y) (v 0) (v 1)) pc x y c r3 ct
       by (yes h) =
-          let z : sub x y ≡ 0 = omega arith in
+          let z : difference x y ≡ 0 = omega arith in
           record {
             a = _;
             b = _;
@@ -235,7 +237,7 @@ module _ {array : ℕ → Bool} {code : List ℕ} {Q : ℕ → List (Option ℕ)
             path = more q (go f₁ refl) (more q (equal-taken fits f₂ (pc + 2 + 2 + 2) (omega arith) z (omega arith)) (more q (go f₄ (e _ _ _)) here));
           }
       by (no h) =
-          let z : 0 < sub x y = omega arith in
+          let z : 0 < difference x y = omega arith in
           record {
             a = _;
             b = _;
@@ -264,15 +266,15 @@ module _ {array : ℕ → Bool} {code : List ℕ} {Q : ℕ → List (Option ℕ)
 
   pub diadic-run : (o : Diadic) → x < modulus → y < modulus → At code pc (diadic-instructions o) → Makes array code Q sp mem l (diadic-instructions o) (work-diadic o x y) pc x y c r3 ct
   diadic-run plus hx hy at = one-run (Addr 1 0 0) (add x y) at refl
-  diadic-run minus hx hy at = one-run (Subr 1 0 0) (sub x y) at refl
+  diadic-run minus hx hy at = one-run (Subr 1 0 0) (sub x y) at (rw (difference-word x y hy))
   diadic-run times hx hy at = one-run (Mul 1 0) (mul x y) at refl
   diadic-run bit-and hx hy at = one-run (Andr 1 0) (bitAnd x y) at refl
   diadic-run bit-or hx hy at = one-run (Orr 1 0) (bitOr x y) at refl
   diadic-run bit-xor hx hy at = one-run (Xorr 1 0) (bitXor x y) at refl
   diadic-run right hx hy at = rw (right-value x y) (shift-run (Shr 1 0) (λ a b. shift-right a (b % 256)) at (λ pc x y c ct. refl))
   diadic-run left hx hy at = rw (left-value x y) (shift-run (Shl 1 0) (λ a b. shift-left a (b % 256)) at (λ pc x y c ct. refl))
-  diadic-run equal hx hy at = rw (equal-value (eqb x y)) (equal-run (Subi 0 1) (λ a. sub a 1) hx hy at (λ pc x ct. refl))
-  diadic-run unequal hx hy at = rw (unequal-value (eqb x y)) (equal-run (Negr 0 0) (λ a. sub 0 a) hx hy at (λ pc x ct. refl))
+  diadic-run equal hx hy at = rw (equal-value (eqb x y)) (equal-run (Subi 0 1) (λ a. difference a 1) hx hy at (λ pc x ct. refl))
+  diadic-run unequal hx hy at = rw (unequal-value (eqb x y)) (equal-run (Negr 0 0) (λ a. difference 0 a) hx hy at (λ pc x ct. refl))
   diadic-run less hx hy at = less-run 0 1 x y (λ c d. refl) (λ c d. refl) hx hy at
   diadic-run at-most hx hy at =
       rw (← (truth-not (signed-less y x)))

@@ -9,7 +9,7 @@ use Rattle.arm_state.proofs.Core.link.Statement.{statement}
 use Rattle.arm_state.proofs.Core.link.Tie as tie
 
 abbrev with-lr : ℕ → Machine → Machine
-with-lr v m = record { regs = m .regs; sp = m .sp; lr = v; pc = m .pc; rs = m .rs }
+with-lr v m = record { regs = m .regs; sp = m .sp; lr = v; pc = m .pc; flags = m .flags }
 
 pub link-spec : {M : Type 1} → statement M
 link-spec = tie.close (tie.spec

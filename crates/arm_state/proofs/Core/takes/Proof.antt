@@ -22,7 +22,7 @@ takes-spec = tie.close (tie.spec
     (λ c κs. search needs)
     (λ c κs. search needs)
     (λ c. unfold takes in
-    let x = c .before .before .before .before .before .before .before .before .before .args in
+    let x = c .before .before .before .before .before .before .before .before .before .before .args in
     let m = x .self in
     rw (
       c .add .ensures,
@@ -35,5 +35,5 @@ takes-spec = tie.close (tie.spec
       c .before .before .choose7 .ensures,
       c .before .choose8 .ensures,
     )
-    (ap (λ (r : List ℕ). record { regs = r; sp = m .sp; lr = m .lr; pc = add (m .pc) 2; rs = m .rs })
+    (ap (λ (r : List ℕ). record { regs = r; sp = m .sp; lr = m .lr; pc = add (m .pc) 2; flags = m .flags })
     (set-by-tests (m .r0) (m .r1) (m .r2) (m .r3) (m .r4) (m .r5) (m .r6) (m .r7) (x .d) (x .v)))))

@@ -12,9 +12,9 @@ use Rattle.arm_state.proofs.Machine.core.Tie as tie
 returns : tie.Need-returns
 unfolding elements
 returns c =
-    let m = c .before .args .self in
+    let m = c .before .before .args .self in
     let g : length (m .regs) ≡ 8 = search needs in
-    ap (λ (r : List ℕ). record { regs = r; sp = m .sp; lr = m .lr; pc = m .pc; rs = m .rs }) (sym (elements-are 8 0 (m .regs) g))
+    ap (λ (r : List ℕ). record { regs = r; sp = m .sp; lr = m .lr; pc = m .pc; flags = m .flags }) (sym (elements-are 8 0 (m .regs) g))
 
 pub core-spec : {M : Type 1} → statement M
 core-spec = tie.close (tie.spec
