@@ -88,13 +88,14 @@ void gutilamboy_translate(const uint8_t *source, size_t source_length,
 
 /* ---- the machine ---- */
 
-/* The machine's registers. */
+/* The machine's registers. Of apsr the flags alone count: its other bits are ignored on the way in, 0 once an
+ * instruction other than an SVC has completed, and else as they came. */
 struct gutilamboy_state {
     uint32_t r[8];
     uint32_t sp;
     uint32_t lr;
     uint32_t pc;
-    uint32_t rs; /* the last result, which the branches test */
+    uint32_t apsr; /* the flags: N is bit 31, Z 30, C 29, V 28 */
 };
 
 /* Status of step and run: an instruction completed, or the limit was reached; an SVC, whose number is `number`, a

@@ -24,7 +24,7 @@ static void print_state(const struct gutilamboy_state *state)
     print("sp", state->sp);
     print("lr", state->lr);
     print("pc", state->pc);
-    print("rs", state->rs);
+    print("apsr", state->apsr);
 }
 
 static void run(const struct gutilamboy_translation *answer)

@@ -201,13 +201,38 @@ pub fn disassemble(h: u16, next: u16) -> Option<Instr> {
     Some(i)
 }
 
+/// The manual's flags: negative, zero, carry (of a difference: no borrow), overflow.
+#[derive(Clone, Copy, Debug, Default, PartialEq, Eq)]
+pub struct Flags {
+    pub n: bool,
+    pub z: bool,
+    pub c: bool,
+    pub v: bool,
+}
+
+impl Flags {
+    /// The bits of the APSR that are flags.
+    pub const BITS: u32 = 0xf000_0000;
+
+    pub fn of(apsr: u32) -> Flags {
+        let bit = |place: u32| apsr >> place & 1 == 1;
+        Flags { n: bit(31), z: bit(30), c: bit(29), v: bit(28) }
+    }
+
+    /// The APSR with these flags, its other bits 0.
+    pub fn apsr(self) -> u32 {
+        let bit = |flag: bool, place: u32| u32::from(flag) << place;
+        bit(self.n, 31) | bit(self.z, 30) | bit(self.c, 29) | bit(self.v, 28)
+    }
+}
+
 #[derive(Clone, Debug, Default, PartialEq, Eq)]
 pub struct State {
     pub r: [u32; 8],
     pub sp: u32,
     pub lr: u32,
     pub pc: u32,
-    pub rs: u32,
+    pub flags: Flags,
 }
 
 pub const DATA: u32 = 0x2000_0000;
@@ -233,7 +258,7 @@ pub fn start(code: &[u8], memory: &[u32], d: u32, n: u32) -> (u32, State) {
         0 if (memory.len() as u128) < needed => 33,
         other => other,
     };
-    let mut s = State { r: [0; 8], sp: 0, lr: 0, pc: 0, rs: 0 };
+    let mut s = State::default();
     if status == 0 {
         s.r[7] = DATA;
         s.sp = DATA + 4 * needed as u32;
@@ -302,64 +327,107 @@ fn fetch(code: &[u8], pc: u32) -> Result<Instr, End> {
     disassemble(h, next).ok_or(End::Fault(22))
 }
 
+/// The manual's AddWithCarry: the result, carry out and overflow.
+fn add_with_carry(x: u32, y: u32, carry_in: bool) -> (u32, bool, bool) {
+    let unsigned_sum = x as u64 + y as u64 + carry_in as u64;
+    let signed_sum = x as i32 as i64 + y as i32 as i64 + carry_in as i64;
+    let result = unsigned_sum as u32;
+    (result, result as u64 != unsigned_sum, result as i32 as i64 != signed_sum)
+}
+
+/// The manual's LSL_C: of the word with so many zeros behind it, the low 32 bits and bit 32. From 64 zeros on these are
+/// all 0.
+fn lsl_c(x: u32, shift: u32) -> (u32, bool) {
+    let extended = (x as u64).checked_shl(shift).unwrap_or(0);
+    (extended as u32, extended >> 32 & 1 == 1)
+}
+
+/// The manual's LSR_C: of the word with zeros before it, the bits from `shift` up and the one below them.
+fn lsr_c(x: u32, shift: u32) -> (u32, bool) {
+    let from = |place: u32| (x as u64).checked_shr(place).unwrap_or(0);
+    (from(shift) as u32, from(shift - 1) & 1 == 1)
+}
+
+/// The manual's ASR_C: the same with copies of the sign before it. Counts are at most 32.
+fn asr_c(x: u32, shift: u32) -> (u32, bool) {
+    let extended = x as i32 as i64;
+    ((extended >> shift) as u32, extended >> (shift - 1) & 1 == 1)
+}
+
+/// A result, its register and the flags after it, of the instructions that set flags: a sum sets all four, a shift
+/// leaves V and by nothing C too, any other result leaves both.
+fn result(i: Instr, r: &[u32; 8], flags: Flags) -> Option<(usize, u32, Flags)> {
+    let (a, b, c) = (i.a as usize & 7, i.b as usize & 7, i.c as usize & 7);
+    let other = |word: u32| (word, flags.c, flags.v);
+    let shifted = |shift_c: fn(u32, u32) -> (u32, bool), word: u32, count: u32| {
+        if count == 0 {
+            return other(word);
+        }
+        let (word, carry) = shift_c(word, count);
+        (word, carry, flags.v)
+    };
+    let (to, (word, carry, overflow)) = match i.op {
+        Shli => (c, shifted(lsl_c, r[b], i.a as u32)),
+        Shri => (c, shifted(lsr_c, r[b], i.a as u32)),
+        Ashri => (c, shifted(asr_c, r[b], i.a as u32)),
+        Shl => (b, shifted(lsl_c, r[b], r[a] & 255)),
+        Shr => (b, shifted(lsr_c, r[b], r[a] & 255)),
+        Addr => (c, add_with_carry(r[b], r[a], false)),
+        Subr => (c, add_with_carry(r[b], !r[a], true)),
+        Addi => (a, add_with_carry(r[a], i.b as u32, false)),
+        Subi => (a, add_with_carry(r[a], !(i.b as u32), true)),
+        Negr => (b, add_with_carry(!r[a], 0, true)),
+        Movi => (a, other(i.b as u32)),
+        Andr => (b, other(r[b] & r[a])),
+        Xorr => (b, other(r[b] ^ r[a])),
+        Orr => (b, other(r[b] | r[a])),
+        Mvnr => (b, other(!r[a])),
+        Mul => (b, other(r[b].wrapping_mul(r[a]))),
+        _ => return None,
+    };
+    Some((to, word, Flags { n: word >> 31 == 1, z: word == 0, c: carry, v: overflow }))
+}
+
+/// Whether an instruction goes on at its distance.
+fn jumps(op: Op, flags: Flags) -> bool {
+    match op {
+        Beq => flags.z,
+        Bne => !flags.z,
+        Bge => flags.n == flags.v,
+        Blt => flags.n != flags.v,
+        Bu | Bl => true,
+        _ => false,
+    }
+}
+
 /// One instruction. On an error nothing but the answer may have changed: callers work on a copy.
 fn execute(s: &mut State, code: &[u8], memory: &mut [u32], touch: &mut Option<Touch>) -> Result<(), End> {
     let i = fetch(code, s.pc)?;
     let ahead = s.pc.wrapping_add(4);
-    let mut next = s.pc.wrapping_add(2);
+    let next =
+        if jumps(i.op, s.flags) { ahead.wrapping_add((i.k as u32) << 1) } else { s.pc.wrapping_add(2) };
     let (a, b, c) = (i.a as usize & 7, i.b as usize & 7, i.c as usize & 7);
-    let shift = |v: u32, n: u32, f: fn(u32, u32) -> Option<u32>| f(v, n).unwrap_or(0);
+    let words = |base: u32, count: u8| base.wrapping_add(4 * count as u32);
     let r = s.r;
-    // a result, which sets rs
-    let mut set: Option<(usize, u32)> = None;
-    // a register alone
-    let mut plain: Option<(usize, u32)> = None;
-    let target = ahead.wrapping_add((i.k as u32) << 1);
     match i.op {
-        Shli => set = Some((c, shift(r[b], i.a as u32, u32::checked_shl))),
-        Shri => set = Some((c, shift(r[b], i.a as u32, u32::checked_shr))),
-        Ashri => set = Some((c, ((r[b] as i32 as i64) >> i.a) as u32)),
-        Addr => set = Some((c, r[b].wrapping_add(r[a]))),
-        Subr => set = Some((c, r[b].wrapping_sub(r[a]))),
-        Movi => set = Some((a, i.b as u32)),
-        Addi => set = Some((a, r[a].wrapping_add(i.b as u32))),
-        Subi => set = Some((a, r[a].wrapping_sub(i.b as u32))),
-        Andr => set = Some((b, r[b] & r[a])),
-        Xorr => set = Some((b, r[b] ^ r[a])),
-        Orr => set = Some((b, r[b] | r[a])),
-        Shl => set = Some((b, shift(r[b], r[a] & 255, u32::checked_shl))),
-        Shr => set = Some((b, shift(r[b], r[a] & 255, u32::checked_shr))),
-        Negr => set = Some((b, r[a].wrapping_neg())),
-        Mul => set = Some((b, r[b].wrapping_mul(r[a]))),
-        Mvnr => set = Some((b, !r[a])),
-        Ldrpci => plain = Some((a, load(code, memory, (ahead & !3).wrapping_add(4 * i.b as u32), touch)?)),
-        Ldrspi => plain = Some((a, load(code, memory, s.sp.wrapping_add(4 * i.b as u32), touch)?)),
-        Ldr => plain = Some((c, load(code, memory, r[b].wrapping_add(r[a]), touch)?)),
-        Ldri => plain = Some((c, load(code, memory, r[b].wrapping_add(4 * i.a as u32), touch)?)),
-        Addpci => plain = Some((a, (ahead & !3).wrapping_add(4 * i.b as u32))),
-        Addspi => plain = Some((a, s.sp.wrapping_add(4 * i.b as u32))),
-        Strspi => store(memory, s.sp.wrapping_add(4 * i.b as u32), r[a], touch)?,
+        Ldrpci => s.r[a] = load(code, memory, words(ahead & !3, i.b), touch)?,
+        Ldrspi => s.r[a] = load(code, memory, words(s.sp, i.b), touch)?,
+        Ldr => s.r[c] = load(code, memory, r[b].wrapping_add(r[a]), touch)?,
+        Ldri => s.r[c] = load(code, memory, words(r[b], i.a), touch)?,
+        Addpci => s.r[a] = words(ahead & !3, i.b),
+        Addspi => s.r[a] = words(s.sp, i.b),
+        Strspi => store(memory, words(s.sp, i.b), r[a], touch)?,
         Str => store(memory, r[b].wrapping_add(r[a]), r[c], touch)?,
-        Stri => store(memory, r[b].wrapping_add(4 * i.a as u32), r[c], touch)?,
-        Incsp => s.sp = s.sp.wrapping_add(4 * i.a as u32),
+        Stri => store(memory, words(r[b], i.a), r[c], touch)?,
+        Incsp => s.sp = words(s.sp, i.a),
         Decsp => s.sp = s.sp.wrapping_sub(4 * i.a as u32),
         Svc => return Err(End::Svc(i.a as u32)),
-        Beq if s.rs == 0 => next = target,
-        Bne if s.rs != 0 => next = target,
-        Bge if (s.rs as i32) >= 0 => next = target,
-        Blt if (s.rs as i32) < 0 => next = target,
-        Beq | Bne | Bge | Blt => {}
-        Bu => next = target,
-        Bl => {
-            s.lr = s.pc.wrapping_add(5);
-            next = target;
-        }
+        Bl => s.lr = s.pc.wrapping_add(5),
+        _ => {}
     }
-    if let Some((d, v)) = plain.or(set) {
-        s.r[d] = v;
-    }
-    if let Some((_, v)) = set {
-        s.rs = v;
+    if let Some((to, word, flags)) = result(i, &r, s.flags) {
+        s.r[to] = word;
+        s.flags = flags;
     }
     s.pc = next;
     Ok(())

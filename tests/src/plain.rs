@@ -1,16 +1,42 @@
 //! The yardstick for the machine's speed: a plain interpreter of the same instructions, written to be fast. One match on
-//! the halfword, registers in locals; every test is made at every instruction: pc odd or outside code, a halfword that is
-//! not in the list, a second half, an address that is no multiple of 4, a word outside memory.
+//! the halfword, registers and flags in locals; every test is made at every instruction: pc odd or outside code, a
+//! halfword that is not in the list, a second half, an address that is no multiple of 4, a word outside memory.
 
-use crate::arm::{refusal, State, DATA};
+use crate::arm::{refusal, Flags, State, DATA};
 
-/// Shifts left or right by a register: its low byte counts, above 31 nothing is left.
-fn shifted(value: u32, count: u32, shift: fn(u32, u32) -> u32) -> u32 {
-    if count & 255 < 32 {
-        shift(value, count & 31)
-    } else {
-        0
-    }
+/// N and Z in one number, so that a result sets both by one extension of its sign: N if it is negative, Z if its low
+/// word is 0. Both at once, which no result gives, is -2^63.
+fn sign_and_zero(flags: Flags) -> i64 {
+    (if flags.n { i64::MIN } else { 0 }) | i64::from(!flags.z)
+}
+
+/// A sum, its carry and overflow.
+fn sum(x: u32, y: u32) -> (u32, bool, bool) {
+    let (word, carry) = x.overflowing_add(y);
+    (word, carry, (x as i32).overflowing_add(y as i32).1)
+}
+
+/// A difference, its carry, which is that there is no borrow, and overflow.
+fn difference(x: u32, y: u32) -> (u32, bool, bool) {
+    (x.wrapping_sub(y), x >= y, (x as i32).overflowing_sub(y as i32).1)
+}
+
+/// A word shifted left by 1 to 63, and the last bit out.
+fn shifted_left(word: u32, count: u32) -> (u32, bool) {
+    let wide = (word as u64) << count;
+    (wide as u32, wide >> 32 & 1 != 0)
+}
+
+/// The same to the right.
+fn shifted_right(word: u32, count: u32) -> (u32, bool) {
+    let wide = (word as u64) << 32 >> count;
+    ((wide >> 32) as u32, wide >> 31 & 1 != 0)
+}
+
+/// The same to the right by 1 to 32, its sign brought in.
+fn shifted_signed(word: u32, count: u32) -> (u32, bool) {
+    let wide = word as i32 as i64;
+    ((wide >> count) as u32, wide >> (count - 1) & 1 != 0)
 }
 
 /// The word at an address of code or data, or the fault.
@@ -47,12 +73,28 @@ pub fn run(state: &mut State, code: &[u8], memory: &mut [u32], limit: u64) -> (u
     if refused != 0 {
         return (refused, 0, 0);
     }
-    let State { mut r, mut sp, mut lr, mut pc, mut rs } = *state;
+    let State { mut r, mut sp, mut lr, mut pc, flags } = *state;
+    let (mut nz, mut carry, mut overflow) = (sign_and_zero(flags), flags.c, flags.v);
     let mut left = limit;
     macro_rules! result {
         ($to:expr, $word:expr) => {{
-            rs = $word;
-            r[$to] = rs;
+            let word: u32 = $word;
+            nz = word as i32 as i64;
+            r[$to] = word;
+        }};
+    }
+    macro_rules! summed {
+        ($to:expr, $sum:expr) => {{
+            let word;
+            (word, carry, overflow) = $sum;
+            result!($to, word);
+        }};
+    }
+    macro_rules! shifted {
+        ($to:expr, $shifted:expr) => {{
+            let word;
+            (word, carry) = $shifted;
+            result!($to, word);
         }};
     }
     let (status, number) = loop {
@@ -69,6 +111,16 @@ pub fn run(state: &mut State, code: &[u8], memory: &mut [u32], limit: u64) -> (u
         let (d, byte, five) = ((half >> 8 & 7) as usize, half & 255, half >> 6 & 31);
         let ahead = pc.wrapping_add(4);
         let mut next = pc.wrapping_add(2);
+        // a count in a register's low byte: 0 leaves C, above 32 nothing is left
+        macro_rules! shifted_by_register {
+            ($shift:ident) => {
+                match r[b] & 255 {
+                    0 => result!(c, r[c]),
+                    count @ 1..=63 => shifted!(c, $shift(r[c], count)),
+                    _ => shifted!(c, (0, false)),
+                }
+            };
+        }
         macro_rules! loaded {
             ($to:expr, $address:expr) => {
                 match load(code, memory, $address) {
@@ -86,23 +138,24 @@ pub fn run(state: &mut State, code: &[u8], memory: &mut [u32], limit: u64) -> (u
             };
         }
         match half >> 11 {
-            0 => result!(c, r[b] << five),
-            1 => result!(c, if five == 0 { 0 } else { r[b] >> five }),
-            2 => result!(c, (r[b] as i32 >> if five == 0 { 31 } else { five }) as u32),
+            0 if five == 0 => result!(c, r[b]),
+            0 => shifted!(c, shifted_left(r[b], five)),
+            1 => shifted!(c, shifted_right(r[b], if five == 0 { 32 } else { five })),
+            2 => shifted!(c, shifted_signed(r[b], if five == 0 { 32 } else { five })),
             3 => match half >> 9 & 3 {
-                0 => result!(c, r[b].wrapping_add(r[a])),
-                1 => result!(c, r[b].wrapping_sub(r[a])),
+                0 => summed!(c, sum(r[b], r[a])),
+                1 => summed!(c, difference(r[b], r[a])),
                 _ => break (22, 0),
             },
             4 => result!(d, byte),
-            6 => result!(d, r[d].wrapping_add(byte)),
-            7 => result!(d, r[d].wrapping_sub(byte)),
+            6 => summed!(d, sum(r[d], byte)),
+            7 => summed!(d, difference(r[d], byte)),
             8 => match half >> 6 & 31 {
                 0 => result!(c, r[c] & r[b]),
                 1 => result!(c, r[c] ^ r[b]),
-                2 => result!(c, shifted(r[c], r[b], |value, count| value << count)),
-                3 => result!(c, shifted(r[c], r[b], |value, count| value >> count)),
-                9 => result!(c, r[b].wrapping_neg()),
+                2 => shifted_by_register!(shifted_left),
+                3 => shifted_by_register!(shifted_right),
+                9 => summed!(c, difference(0, r[b])),
                 12 => result!(c, r[c] | r[b]),
                 13 => result!(c, r[c].wrapping_mul(r[b])),
                 15 => result!(c, !r[b]),
@@ -124,8 +177,8 @@ pub fn run(state: &mut State, code: &[u8], memory: &mut [u32], limit: u64) -> (u
             },
             26 => {
                 let taken = match d {
-                    0 => rs == 0,
-                    1 => rs != 0,
+                    0 => nz as u32 == 0,
+                    1 => nz as u32 != 0,
                     _ => break (22, 0),
                 };
                 if taken {
@@ -134,8 +187,8 @@ pub fn run(state: &mut State, code: &[u8], memory: &mut [u32], limit: u64) -> (u
             }
             27 => {
                 let taken = match d {
-                    2 => rs as i32 >= 0,
-                    3 => (rs as i32) < 0,
+                    2 => (nz < 0) == overflow,
+                    3 => (nz < 0) != overflow,
                     7 => {
                         left -= 1;
                         break (1, byte);
@@ -161,6 +214,7 @@ pub fn run(state: &mut State, code: &[u8], memory: &mut [u32], limit: u64) -> (u
         pc = next;
         left -= 1;
     };
-    *state = State { r, sp, lr, pc, rs };
+    let flags = Flags { n: nz < 0, z: nz as u32 == 0, c: carry, v: overflow };
+    *state = State { r, sp, lr, pc, flags };
     (status, number, limit - left)
 }

@@ -1,7 +1,13 @@
 //! The proved functions, as the archive exports them.
 
-use crate::arm::{Instr, State, OPS};
+use crate::arm::{Flags, Instr, State, OPS};
 use crate::Translation;
+
+/// The state as the boundary has it: r0 to r7, sp, lr, pc, and the APSR with the flags.
+pub type Words = [u32; 12];
+
+/// The APSR's place among the words.
+pub const APSR: usize = 11;
 
 extern "C" {
     fn gutilamboy_translate(
@@ -22,14 +28,14 @@ extern "C" {
         memory_len: usize,
         declared: u32,
         depth: u32,
-        state: *mut [u32; 12],
+        state: *mut Words,
     ) -> u32;
     fn gutilamboy_step(
         code: *const u8,
         code_len: usize,
         memory: *mut u32,
         memory_len: usize,
-        state: *mut [u32; 12],
+        state: *mut Words,
         out: *mut [u32; 2],
     );
     fn gutilamboy_run(
@@ -38,7 +44,7 @@ extern "C" {
         memory: *mut u32,
         memory_len: usize,
         limit: u64,
-        state: *mut [u32; 12],
+        state: *mut Words,
         out: *mut [u64; 3],
     );
 }
@@ -84,15 +90,17 @@ pub fn decode(first: u16, second: u16) -> Option<Instr> {
     Some(Instr { op: OPS[number as usize], a: byte(a), b: byte(b), c: byte(c), k: k as i32 })
 }
 
-fn words(s: &State) -> [u32; 12] {
+pub fn words(s: &State) -> Words {
     let mut w = [0; 12];
     w[..8].copy_from_slice(&s.r);
-    w[8..].copy_from_slice(&[s.sp, s.lr, s.pc, s.rs]);
+    w[8..].copy_from_slice(&[s.sp, s.lr, s.pc, s.flags.apsr()]);
     w
 }
 
-fn state(w: [u32; 12]) -> State {
-    State { r: w[..8].try_into().unwrap(), sp: w[8], lr: w[9], pc: w[10], rs: w[11] }
+/// The state of words whose APSR has nothing but flags, as each call hands it back that was lent it so.
+fn state(w: Words) -> State {
+    assert_eq!(w[APSR] & !Flags::BITS, 0, "bits of the APSR that are no flags");
+    State { r: w[..8].try_into().unwrap(), sp: w[8], lr: w[9], pc: w[10], flags: Flags::of(w[APSR]) }
 }
 
 pub fn start(code: &[u8], memory: &[u32], declared: u32, depth: u32) -> (u32, State) {
@@ -103,23 +111,31 @@ pub fn start(code: &[u8], memory: &[u32], declared: u32, depth: u32) -> (u32, St
     (status, state(w))
 }
 
+pub fn step_words(w: &mut Words, code: &[u8], memory: &mut [u32]) -> (u32, u32) {
+    let mut out = [9; 2];
+    unsafe { gutilamboy_step(code.as_ptr(), code.len(), memory.as_mut_ptr(), memory.len(), w, &mut out) };
+    (out[0], out[1])
+}
+
+pub fn run_words(w: &mut Words, code: &[u8], memory: &mut [u32], limit: u64) -> (u32, u32, u64) {
+    let mut out = [9; 3];
+    unsafe {
+        gutilamboy_run(code.as_ptr(), code.len(), memory.as_mut_ptr(), memory.len(), limit, w, &mut out)
+    };
+    let word = |number: u64| u32::try_from(number).expect("a word");
+    (word(out[0]), word(out[1]), out[2])
+}
+
 pub fn step(s: &mut State, code: &[u8], memory: &mut [u32]) -> (u32, u32) {
     let mut w = words(s);
-    let mut out = [9; 2];
-    unsafe {
-        gutilamboy_step(code.as_ptr(), code.len(), memory.as_mut_ptr(), memory.len(), &mut w, &mut out)
-    };
+    let answer = step_words(&mut w, code, memory);
     *s = state(w);
-    (out[0], out[1])
+    answer
 }
 
 pub fn run(s: &mut State, code: &[u8], memory: &mut [u32], limit: u64) -> (u32, u32, u64) {
     let mut w = words(s);
-    let mut out = [9; 3];
-    unsafe {
-        gutilamboy_run(code.as_ptr(), code.len(), memory.as_mut_ptr(), memory.len(), limit, &mut w, &mut out)
-    };
+    let answer = run_words(&mut w, code, memory, limit);
     *s = state(w);
-    let word = |number: u64| u32::try_from(number).expect("a word");
-    (word(out[0]), word(out[1]), out[2])
+    answer
 }

@@ -72,7 +72,7 @@ impl Lines {
 
     fn state(&mut self, state: &State) {
         self.push_all(state.r.map(|word| ("r", word)));
-        self.push_all([("sp", state.sp), ("lr", state.lr), ("pc", state.pc), ("rs", state.rs)]);
+        self.push_all([("sp", state.sp), ("lr", state.lr), ("pc", state.pc), ("apsr", state.flags.apsr())]);
     }
 
     fn translate(&mut self, source: &str) {

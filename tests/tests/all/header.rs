@@ -182,7 +182,7 @@ fn translation_statuses() -> Vec<(&'static str, u64)> {
 /// What the second machine answers to a step or a start for each status.
 fn machine_statuses() -> Vec<(&'static str, u64)> {
     let step = |halfword: u16, pc| {
-        let mut state = State { r: [1; 8], sp: 0, lr: 0, pc, rs: 0 };
+        let mut state = State { r: [1; 8], pc, ..State::default() };
         arm::step(&mut state, &halfword.to_le_bytes(), &mut []).0 as u64
     };
     let start =
@@ -244,7 +244,7 @@ const STRUCTURES: [Structure; 6] = [
         4,
         &[("status", 1), ("place", 1), ("tokens", 1), ("rows", 1), ("data", 1), ("depth", 1), ("code", 1)],
     ),
-    ("state", 4, &[("r", 8), ("sp", 1), ("lr", 1), ("pc", 1), ("rs", 1)]),
+    ("state", 4, &[("r", 8), ("sp", 1), ("lr", 1), ("pc", 1), ("apsr", 1)]),
     ("stepped", 4, &[("status", 1), ("number", 1)]),
     ("ran", 8, &[("status", 1), ("number", 1), ("count", 1)]),
     ("encoded", 4, &[("status", 1), ("count", 1), ("first", 1), ("second", 1)]),
@@ -358,7 +358,7 @@ fn wrong_headers_are_noticed() {
         ("uint32_t sp;\n    uint32_t lr;", "uint32_t lr;\n    uint32_t sp;"),
         ("uint64_t count;", "uint32_t count;"),
         ("uint32_t r[8];", "uint32_t r[7];"),
-        ("uint32_t rs;", "uint32_t rs; uint32_t more;"),
+        ("uint32_t apsr;", "uint32_t apsr; uint32_t more;"),
         ("void gutilamboy_step(", "void gutilamboy_more(void);\nvoid gutilamboy_step("),
     ] {
         assert!(!passes(old, new), "{new:?} for {old:?}");

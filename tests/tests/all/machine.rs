@@ -2,7 +2,7 @@
 
 use crate::{by_status, print};
 use reference::generate::Random;
-use tests::arm::{self, assemble, disassemble, pattern, Instr, Layout, Op, State, OPS};
+use tests::arm::{self, assemble, disassemble, pattern, Flags, Instr, Layout, Op, State, OPS};
 use tests::{plain, proved};
 
 const EDGES: [u8; 22] =
@@ -11,7 +11,7 @@ const EDGES: [u8; 22] =
 /// "35, count 0 and both halfwords 0".
 const OUT_OF_RANGE: [u32; 4] = [35, 0, 0, 0];
 
-fn same<T: PartialEq + std::fmt::Debug>(what: &str, case: impl std::fmt::Debug, got: T, want: T) {
+pub fn same<T: PartialEq + std::fmt::Debug>(what: &str, case: impl std::fmt::Debug, got: T, want: T) {
     if got != want {
         panic!("{what} {case:?}: got {got:?}, want {want:?}");
     }
@@ -158,7 +158,7 @@ fn word(random: &mut Random, code: usize, memory: usize) -> u32 {
     }
 }
 
-fn state(random: &mut Random, code: usize, memory: usize) -> State {
+pub fn state(random: &mut Random, code: usize, memory: usize) -> State {
     let pc = match random.below(24) {
         0 => random.any_word(),
         1 => (code as u32).wrapping_sub(random.below(6) as u32),
@@ -170,42 +170,48 @@ fn state(random: &mut Random, code: usize, memory: usize) -> State {
     for x in &mut r {
         *x = word(random, code, memory);
     }
-    State { r, sp: word(random, code, memory), lr: random.any_word(), pc, rs: word(random, code, memory) }
+    let (sp, lr) = (word(random, code, memory), random.any_word());
+    State { r, sp, lr, pc, flags: Flags::of(random.any_word()) }
+}
+
+/// An instruction whose fields are near each other's, and at times out of range.
+pub fn instruction(random: &mut Random, op: Op) -> Instr {
+    let layout = pattern(op).1;
+    let reach = *random.pick(&[3, 8, 16, 40]);
+    let bytes = *random.pick(&[4, 16, 256]);
+    Instr {
+        op,
+        a: random.below(if matches!(layout, Layout::Imm5 | Layout::Count) { 33 } else { 8 }) as u8,
+        b: random.below(if layout == Layout::Imm8 { bytes } else { 8 }) as u8,
+        c: random.below(8) as u8,
+        k: random.below(2 * reach) as i32 - reach as i32,
+    }
 }
 
 /// Code of random halfwords, of instructions of each kind alike, or of bytes.
-fn code(random: &mut Random, length: usize, kind: u64) -> Vec<u8> {
+pub fn code(random: &mut Random, length: usize, kind: u64) -> Vec<u8> {
     let mut bytes = Vec::with_capacity(length + 4);
     while bytes.len() < length {
         let halves = match kind {
             0 => vec![random.any_word() as u16],
             _ => {
                 let op = *random.pick(&OPS);
-                let reach = *random.pick(&[3, 8, 16, 40]);
-                let bytes = *random.pick(&[4, 16, 256]);
-                let i = Instr {
-                    op,
-                    a: random.below(if matches!(pattern(op).1, Layout::Imm5 | Layout::Count) {
-                        33
-                    } else {
-                        8
-                    }) as u8,
-                    b: random.below(if pattern(op).1 == Layout::Imm8 { bytes } else { 8 }) as u8,
-                    c: random.below(8) as u8,
-                    k: random.below(2 * reach) as i32 - reach as i32,
-                };
-                assemble(i).unwrap_or_default()
+                assemble(instruction(random, op)).unwrap_or_default()
             }
         };
-        for h in halves {
-            bytes.extend(h.to_le_bytes());
-        }
+        bytes.extend(halves.into_iter().flat_map(u16::to_le_bytes));
     }
     bytes.truncate(length);
     bytes
 }
 
-fn memory(random: &mut Random, length: usize) -> Vec<u32> {
+/// The instruction at an address of code, if there is one.
+pub fn at(code: &[u8], pc: u32) -> Option<Instr> {
+    let half = |a: usize| code.get(a..a + 2).map(|b| u16::from_le_bytes([b[0], b[1]]));
+    disassemble(half(pc as usize)?, half(pc as usize + 2).unwrap_or(0))
+}
+
+pub fn memory(random: &mut Random, length: usize) -> Vec<u32> {
     (0..length)
         .map(|_| if random.below(4) == 0 { random.any_word() } else { word(random, 40, length) })
         .collect()
@@ -217,12 +223,13 @@ struct Seen {
     runs: [u64; 36],
     starts: [u64; 36],
     run_instructions: u64,
-    kinds: [u64; 34],
+    /// completed steps, by instruction and combination of flags before it
+    kinds: [[u64; 16]; 34],
 }
 
 impl Seen {
     fn none() -> Seen {
-        Seen { steps: [0; 36], runs: [0; 36], starts: [0; 36], run_instructions: 0, kinds: [0; 34] }
+        Seen { steps: [0; 36], runs: [0; 36], starts: [0; 36], run_instructions: 0, kinds: [[0; 16]; 34] }
     }
 }
 
@@ -236,11 +243,9 @@ fn one_step(seen: &mut Seen, s: &State, code: &[u8], memory: &[u32]) {
         same("kept", s, (mine, my_memory), (s.clone(), memory.to_vec()));
     }
     seen.steps[want.0 as usize] += 1;
-    let pc = s.pc as usize;
     if want.0 < 2 {
-        let half = |a: usize| code.get(a..a + 2).map_or(0, |b| u16::from_le_bytes([b[0], b[1]]));
-        let i = disassemble(half(pc), half(pc + 2)).unwrap();
-        seen.kinds[OPS.iter().position(|&op| op == i.op).unwrap()] += 1;
+        let i = at(code, s.pc).unwrap();
+        seen.kinds[OPS.iter().position(|&op| op == i.op).unwrap()][(s.flags.apsr() >> 28) as usize] += 1;
     }
 }
 
@@ -326,7 +331,7 @@ fn runs(random: &mut Random, seen: &mut Seen) {
         for limit in
             [0, 1, 2 * start as u64 - 1, 2 * start as u64, 2 * start as u64 + 1, 2 * start as u64 + 2]
         {
-            let mut s = State { r: [0; 8], sp: 0, lr: 0, pc: 0, rs: 0 };
+            let mut s = State::default();
             s.r[0] = start;
             one_run(seen, &s, &code, &[], limit);
         }
@@ -372,7 +377,9 @@ fn starts_steps_and_runs() {
     let total = |counts: &[u64]| counts.iter().sum::<u64>();
     print(&format!("start: {} calls (by status {})", total(&seen.starts), by_status(&seen.starts)));
     print(&format!("step: {} calls (by status {})", total(&seen.steps), by_status(&seen.steps)));
-    print(&format!("step: fewest completed of one kind of instruction {}", seen.kinds.iter().min().unwrap()));
+    let fewest = seen.kinds.iter().flatten().min().unwrap();
+    assert!(*fewest > 0, "every instruction from every combination of flags");
+    print(&format!("step: fewest completed of one instruction from one combination of flags {fewest}"));
     let (runs, done) = (total(&seen.runs), seen.run_instructions);
     print(&format!("run: {runs} calls, {done} instructions (by status {})", by_status(&seen.runs)));
 }
