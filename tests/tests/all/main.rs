@@ -9,6 +9,7 @@ mod cases;
 mod documents;
 mod ebnf;
 mod failures;
+mod flags;
 mod front;
 mod header;
 mod language;
