@@ -6,9 +6,9 @@ use std::path::PathBuf;
 use std::time::Instant;
 use tests::{arm, needed_words, plain, proved, CODE_BYTES, TABLE_WORDS};
 
-/// More times as long as the plain interpreter than the machine may take. It takes about two; with a second caller of
-/// what its loop is made of, which the compiler then doesn't build into it, it took more than this.
-const LIMIT: f64 = 4.0;
+/// More times as long as the plain interpreter, which keeps the flags too, than the machine may take. With a second
+/// caller of what its loop is made of, which the compiler then doesn't build into it, it took more than this.
+const LIMIT: f64 = 3.0;
 
 fn programs() -> Vec<PathBuf> {
     let folder = read_dir(repository().join("benchmarks/programs")).expect("the programs");
