@@ -18,7 +18,7 @@ extern "C" {
 #endif
 
 /* The version of this interface: the major number changes where a caller must change too. */
-#define GUTILAMBOY_VERSION_MAJOR 2
+#define GUTILAMBOY_VERSION_MAJOR 3
 #define GUTILAMBOY_VERSION_MINOR 0
 
 /* ---- limits ---- */

@@ -270,7 +270,7 @@ cut r h = r .make (h / (r .shape .middle * r .shape .low) % r .shape .high) (h /
 -- the first row that has the halfword
 unfoldable pub find : List Row → ℕ → Decoded
 find [] h = Unknown
-find (r ∷ rs) h = pick (within (r .shape) h) (Known (cut r h)) (find rs h)
+find (r ∷ rows) h = pick (within (r .shape) h) (Known (cut r h)) (find rows h)
 
 -- a first halfword, and the one after it, which matters only for F000 to F7FF: with F800 to FFFF after it that is BL
 unfoldable pub decodeOf : ℕ → ℕ → Decoded

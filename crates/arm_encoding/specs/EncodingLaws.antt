@@ -51,13 +51,13 @@ sound-is f e =
 -- every form of a table, in one computed test
 unfoldable all-sound : List Row → Bool
 all-sound [] = true
-all-sound (r ∷ rs) = pick (sound (r .shape)) (all-sound rs) false
+all-sound (r ∷ rows) = pick (sound (r .shape)) (all-sound rows) false
 
 all-sound-at : (t : List Row) (d : Row) (k : ℕ) → all-sound t ≡ true → k < length t → Sound (getD t k d .shape)
 unfolding all-sound
 all-sound-at [] d k o p = absurd (not-suc-le-zero p)
-all-sound-at (r ∷ rs) d zero o p = sound-is (r .shape) (both (sound (r .shape)) (all-sound rs) o .0)
-all-sound-at (r ∷ rs) d (suc k) o p = all-sound-at rs d k (both (sound (r .shape)) (all-sound rs) o .1) (le-of-suc-le-suc p)
+all-sound-at (r ∷ rows) d zero o p = sound-is (r .shape) (both (sound (r .shape)) (all-sound rows) o .0)
+all-sound-at (r ∷ rows) d (suc k) o p = all-sound-at rows d k (both (sound (r .shape)) (all-sound rows) o .1) (le-of-suc-le-suc p)
 
 pub sound-at : (k : ℕ) → k < 33 → Sound (at k .shape)
 unfolding table all-sound
@@ -171,7 +171,7 @@ Made r = (a b c : ℕ) → a < r .shape .high → b < r .shape .middle → c < r
 infixr 20 _and_
 data AllMade : List Row → Type 0 where
   done : AllMade []
-  _and_ : {r : Row} {rs : List Row} → Made r → AllMade rs → AllMade (r ∷ rs)
+  _and_ : {r : Row} {rows : List Row} → Made r → AllMade rows → AllMade (r ∷ rows)
 
 -- the ways in which an instruction's fields are a form's: all three, a shift's count and two, two, one, a distance
 module _ (f : Form) where
@@ -247,11 +247,11 @@ recut r h s m w =
 found : (t : List Row) → all-sound t ≡ true → AllMade t → (h : ℕ) (i : Instr) → find t h ≡ Known i → encodeOf i ≡ one h
 unfolding find all-sound
 found [] o g h i = λ e. absurd (let z : _≡_ {A = ℕ} 0 1 = cc in omega arith)
-found (r ∷ rs) o (m and g) h i =
-    let s = both (sound (r .shape)) (all-sound rs) o in
-    by-test (λ t. pick t (Known (cut r h)) (find rs h) ≡ Known i → encodeOf i ≡ one h) (within (r .shape) h)
+found (r ∷ rows) o (m and g) h i =
+    let s = both (sound (r .shape)) (all-sound rows) o in
+    by-test (λ t. pick t (Known (cut r h)) (find rows h) ≡ Known i → encodeOf i ≡ one h) (within (r .shape) h)
     (λ w e. let i≡ : cut r h ≡ i = cc in ap encodeOf (sym i≡) ∙ recut r h (sound-is (r .shape) (s .0)) m w)
-    (λ w e. found rs (s .1) g h i e)
+    (λ w e. found rows (s .1) g h i e)
 
 found-in-table : (h : ℕ) (i : Instr) → find table h ≡ Known i → encodeOf i ≡ one h
 unfolding table all-sound

@@ -19,31 +19,31 @@ use Rattle.arm_encoding.specs.Encoding.{Row, row, form, end, cut, within
 -- every row of t starts at e or later
 unfoldable pub after : ℕ → List Row → Bool
 after e [] = true
-after e (r ∷ rs) = pick (leb e (r .shape .base)) (after e rs) false
+after e (r ∷ rows) = pick (leb e (r .shape .base)) (after e rows) false
 
 unfoldable pub ordered : List Row → Bool
 ordered [] = true
-ordered (r ∷ rs) = pick (after (end (r .shape)) rs) (ordered rs) false
+ordered (r ∷ rows) = pick (after (end (r .shape)) rows) (ordered rows) false
 
 -- no row of t has a halfword from lo up to hi
 unfoldable pub clear : ℕ → ℕ → List Row → Bool
 clear lo hi [] = true
-clear lo hi (r ∷ rs) = pick (pick (leb (end (r .shape)) lo) true (leb hi (r .shape .base))) (clear lo hi rs) false
+clear lo hi (r ∷ rows) = pick (pick (leb (end (r .shape)) lo) true (leb hi (r .shape .base))) (clear lo hi rows) false
 
 after-at : (e : ℕ) (t : List Row) (d : Row) (k : ℕ) → after e t ≡ true → k < length t → e ≤ getD t k d .shape .base
 unfolding after
 after-at e [] d k o p = absurd (not-suc-le-zero p)
-after-at e (r ∷ rs) d zero o p = leb-true e (r .shape .base) (both (leb e (r .shape .base)) (after e rs) o .0)
-after-at e (r ∷ rs) d (suc k) o p = after-at e rs d k (both (leb e (r .shape .base)) (after e rs) o .1) (le-of-suc-le-suc p)
+after-at e (r ∷ rows) d zero o p = leb-true e (r .shape .base) (both (leb e (r .shape .base)) (after e rows) o .0)
+after-at e (r ∷ rows) d (suc k) o p = after-at e rows d k (both (leb e (r .shape .base)) (after e rows) o .1) (le-of-suc-le-suc p)
 
 hit : (t : List Row) (d : Row) (k h : ℕ) → ordered t ≡ true → k < length t → getD t k d .shape .base ≤ h → h < end (getD t k d .shape) → find t h ≡ Known (cut (getD t k d) h)
 unfolding find ordered
 hit [] d k h o p l u = absurd (not-suc-le-zero p)
-hit (r ∷ rs) d zero h o p l u = rw (le-leb (r .shape .base) h l, lt-ltb h (end (r .shape)) u)
-hit (r ∷ rs) d (suc k) h o p l u =
-    let w = both (after (end (r .shape)) rs) (ordered rs) o in
-    let g = le-trans (after-at (end (r .shape)) rs d k (w .0) (le-of-suc-le-suc p)) l in
-    rw (le-ltb h (end (r .shape)) g) (past (leb (r .shape .base) h) (find rs h) (Known (cut r h)) ∙ hit rs d k h (w .1) (le-of-suc-le-suc p) l u)
+hit (r ∷ rows) d zero h o p l u = rw (le-leb (r .shape .base) h l, lt-ltb h (end (r .shape)) u)
+hit (r ∷ rows) d (suc k) h o p l u =
+    let w = both (after (end (r .shape)) rows) (ordered rows) o in
+    let g = le-trans (after-at (end (r .shape)) rows d k (w .0) (le-of-suc-le-suc p)) l in
+    rw (le-ltb h (end (r .shape)) g) (past (leb (r .shape .base) h) (find rows h) (Known (cut r h)) ∙ hit rows d k h (w .1) (le-of-suc-le-suc p) l u)
   where
     past : (b : Bool) (x y : Decoded) → pick (pick b false false) y x ≡ x
     past true x y = refl
@@ -52,17 +52,17 @@ hit (r ∷ rs) d (suc k) h o p l u =
 miss : (t : List Row) (lo hi h : ℕ) → clear lo hi t ≡ true → lo ≤ h → h < hi → find t h ≡ Unknown
 unfolding find clear
 miss [] lo hi h o l u = refl
-miss (r ∷ rs) lo hi h o l u =
+miss (r ∷ rows) lo hi h o l u =
     let b = r .shape .base in
     let e = end (r .shape) in
-    let w = both (pick (leb e lo) true (leb hi b)) (clear lo hi rs) o in
-    by-test (λ t. pick t (Known (cut r h)) (find rs h) ≡ Unknown) (within (r .shape) h)
+    let w = both (pick (leb e lo) true (leb hi b)) (clear lo hi rows) o in
+    by-test (λ t. pick t (Known (cut r h)) (find rows h) ≡ Unknown) (within (r .shape) h)
     (λ i.
     let v = both (leb b h) (ltb h e) i in
     let f = leb-true b h (v .0) in
     let g = ltb-true h e (v .1) in
     ⊎-elim (λ x. absurd (omega (arith, leb-true e lo x))) (λ x. absurd (omega (arith, leb-true hi b x))) (either (leb e lo) (leb hi b) (w .0)))
-    (λ i. miss rs lo hi h (w .1) l u)
+    (λ i. miss rows lo hi h (w .1) l u)
 
 -- row k of the table
 abbrev pub at : ℕ → Row

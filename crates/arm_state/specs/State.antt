@@ -19,11 +19,11 @@ base = 0x20000000
 abbrev pub needed : ℕ → ℕ → ℕ
 needed d n = d + 2 * n + 8
 
--- Request 2026-02, in rs's place: "N, Z, C and V"; "All four are 0 at start"
+-- Request 2026-02: "N, Z, C and V of the Armv6-M manual"; "All four are 0 at start"
 abbrev pub no-flags : Flags
 no-flags = record { n = false; z = false; c = false; v = false }
 
--- "Start: pc, r0 to r6, lr, rs 0; r7 = 0x20000000; sp = r7 + 4 x needed words"
+-- "Start: pc, r0 to r6, lr ... 0; r7 = 0x20000000; sp = r7 + 4 x needed words"
 unfoldable pub freshOf : ℕ → ℕ → Machine
 freshOf d n = record { regs = 0 ∷ 0 ∷ 0 ∷ 0 ∷ 0 ∷ 0 ∷ 0 ∷ base ∷ []; sp = add base (4 * needed d n); lr = 0; pc = 0; flags = no-flags }
 

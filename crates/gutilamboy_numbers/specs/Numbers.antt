@@ -108,7 +108,7 @@ decodedWords Unknown = 34 ∷ 0 ∷ 0 ∷ 0 ∷ 0 ∷ []
 abbrev pub encodedWords : Encoded → List ℕ
 encodedWords e = e .status ∷ e .count ∷ e .first ∷ e .second ∷ []
 
--- ── states: request 2026-02 in rs's place, "N, Z, C and V"; in the word APSR of the manual N is bit 31, Z 30, C 29, V 28 ──
+-- ── states; request 2026-02: the flags as the manual's APSR has them, N in bit 31, Z in 30, C in 29, V in 28 ──
 
 -- the bits of a word; all other bits of an APSR word are ignored
 abbrev pub apsrFlags : ℕ → Flags

@@ -46,7 +46,16 @@ fn code_of(a: u16, b: u16, c: u16, d: u16) -> [u8; 8] {
     ]
 }
 
-// A start with 1 declared word and depth 1, and a run: status, number and count, then r0, lr, pc and the first word of data.
+fn flag(set: bool, letter: &[u8]) {
+    if set {
+        text(letter);
+        return;
+    }
+    text(b"-");
+}
+
+// A start with 1 declared word and depth 1, and a run: status, number and count, then r0, lr, pc, the first word of data and
+// the flags.
 fn ran(code: &[u8], limit: u64) {
     let mut memory = [7u32; 12];
     let started = arm_machine::start(code, &memory, 1, 1);
@@ -61,6 +70,12 @@ fn ran(code: &[u8], limit: u64) {
     hex(after.lr, 8);
     hex(after.pc, 8);
     hex(memory[0], 8);
+    let f = after.flags;
+    text(b" ");
+    flag(f.n, b"N");
+    flag(f.z, b"Z");
+    flag(f.c, b"C");
+    flag(f.v, b"V");
     text(b"\n");
 }
 
@@ -112,7 +127,32 @@ fn runs() {
     case(b"not listed:", &alone, 8, 10);
 }
 
+fn flags() {
+    // BEQ, at once: Z is 0 at start
+    let first = code_of(0xD000, 0xDF00, 0xDF00, 0xDF00);
+    case(b"BEQ first:", &first, 8, 1);
+    // MOVI r0,1; SHLI r0,31; SUBI r0,1; BLT: the least number is below 1, though the difference is positive
+    let least = code_of(0x2001, 0x07C0, 0x3801, 0xDB00);
+    case(b"least less 1:", &least, 8, 3);
+    case(b"and BLT:", &least, 8, 4);
+    // MOVI r0,0; SUBI r0,0; SHLI r0,0; MOVI r0,5
+    let kept = code_of(0x2000, 0x3800, 0x0000, 0x2005);
+    case(b"0 less 0:", &kept, 8, 2);
+    case(b"SHLI by nothing:", &kept, 8, 3);
+    case(b"MOVI:", &kept, 8, 4);
+    // NEGR r0,r0 of 0
+    let negated = code_of(0x4240, 0xDF00, 0xDF00, 0xDF00);
+    case(b"NEGR of 0:", &negated, 8, 1);
+    // MOVI r0,1; MOVI r1,32; SHL r0,r1, and by 33; ADDPCI r0,0
+    let by_32 = code_of(0x2001, 0x2120, 0x4088, 0xA000);
+    case(b"1 SHL 32:", &by_32, 8, 3);
+    case(b"ADDPCI:", &by_32, 8, 4);
+    let by_33 = code_of(0x2001, 0x2121, 0x4088, 0xA000);
+    case(b"1 SHL 33:", &by_33, 8, 3);
+}
+
 fn main() {
     encodings();
     runs();
+    flags();
 }

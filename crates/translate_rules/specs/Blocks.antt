@@ -78,7 +78,7 @@ unfoldable pub store-element : ℕ → List Instr
 store-element o =
     Ldrspi 0 0 ∷ Ldrspi 1 1 ∷ Incsp 2 ∷ Shli 2 1 1 ∷ load-constant 2 (4 * o) ++ Addr 2 1 1 ∷ Str 1 7 0 ∷ []
 
--- the condition comes off the stack, rs takes it; if it holds the jump that follows is stepped over
+-- the condition comes off the stack and sets Z; if it holds the jump that follows is stepped over
 unfoldable pub take-condition : List Instr
 take-condition = Ldrspi 0 0 ∷ Incsp 1 ∷ Addi 0 0 ∷ Bne 1 ∷ []
 
