@@ -88,8 +88,9 @@ void gutilamboy_translate(const uint8_t *source, size_t source_length,
 
 /* ---- the machine ---- */
 
-/* The machine's registers. Of apsr the flags alone count: its other bits are ignored on the way in, 0 once an
- * instruction other than an SVC has completed, and else as they came. */
+/* The machine's registers and flags. The flags are set and tested as Arm's Armv6-M manual says; start gives them as 0.
+ * The other bits of apsr are ignored on the way in. A call in which an instruction other than an SVC completes hands 0
+ * back there; any other call hands all twelve words back as they came. */
 struct gutilamboy_state {
     uint32_t r[8];
     uint32_t sp;

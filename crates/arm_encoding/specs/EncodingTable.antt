@@ -1,7 +1,7 @@
 -- Laws of the table: its forms stand in order and apart, so a halfword of a form finds its row, and one between two forms finds none. Rests on Encoding.
 use mathlib.Core.Path.{_≡_, refl, sym, _∙_}
 use mathlib.Core.Bool.{Bool, true, false}
-use mathlib.Core.Logic.{_⊎_, ⊎-elim}
+use mathlib.Core.Logic.{⊎-elim}
 use mathlib.Core.List.{List, [], _∷_}
 use Prim.Native.Nat.{ℕ, zero, suc, _+_, _*_, _/_, _%_, _≤_, _<_}
 use native.Mathlib.Nat.{div-add-mod', div-div-eq-div-mul, mod-lt, le-trans, le-of-suc-le-suc, not-suc-le-zero}

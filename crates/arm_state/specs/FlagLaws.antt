@@ -6,11 +6,11 @@ use Prim.Native.Nat.{ℕ, _+_, _*_, _/_, _%_, _<_}
 use native.Mathlib.Omega.{arith}
 use lib.ListN.{length}
 use lib.Dec.{leb, eqb}
-use borrow.Author.Tests.{eqb-true, eqb-false, eq-eqb, ne-eqb}
+use borrow.Author.Tests.{eqb-true, eqb-false, eq-eqb, ne-eqb, le-leb, lt-leb}
 use Rattle.arm_word.specs.Choice.{pick}
 use Rattle.arm_word.specs.ChoiceLaws.{by-test}
-use Rattle.arm_word.specs.Word.{sub, signed-less}
-use Rattle.arm_word.specs.CarryLaws.{difference-word, difference-carry, less-flags, last-left-extended, last-right-extended}
+use Rattle.arm_word.specs.Word.{sign, sub, signed-less}
+use Rattle.arm_word.specs.CarryLaws.{difference-word, difference-carry, negative-overflow, less-flags, last-left-extended, last-right-extended}
 use Rattle.arm_encoding.specs.declared.Instr.{Instr}
 use Rattle.arm_encoding.specs.declared.Instr.the-variants.{Shli, Shri, Ashri, Addr, Subr, Movi, Addi, Subi, Ldrpci, Strspi, Ldrspi, Addpci, Addspi, Andr, Xorr, Shl, Shr, Negr, Orr, Mul}
 use Rattle.arm_encoding.specs.declared.Instr.the-variants.{Mvnr, Str, Ldr}
@@ -63,10 +63,19 @@ module _ (m : Machine) (d x y : ℕ) (hx : x < 4294967296) (hy : y < 4294967296)
   unfolding executeOf
   bge-after c w k = ap (λ (b : Bool). goes w (branch (subtracts m d x y) (not b) k)) less-after
 
--- NEGR is 0 - x: C for 0 alone
-pub negr-carry : (c w : List ℕ) (m : Machine) (r d : ℕ) → reg m r < 4294967296 → executeOf c w m (Negr r d) .after .state .machine .flags .c ≡ leb (reg m r) 0
-unfolding executeOf
-negr-carry c w m r d h = carry-after m d 0 (reg m r) (omega arith) h
+-- NEGR is 0 - x: C for 0 alone, V for 2 ^ 31 alone
+module _ (c w : List ℕ) (m : Machine) (r d : ℕ) (h : reg m r < 4294967296) where
+  pub negr-carry : executeOf c w m (Negr r d) .after .state .machine .flags .c ≡ eqb (reg m r) 0
+  unfolding executeOf
+  negr-carry =
+      carry-after m d 0 (reg m r) (omega arith) h
+      ∙ by-test (λ t. leb (reg m r) 0 ≡ t) (eqb (reg m r) 0)
+      (λ e. le-leb (reg m r) 0 (omega (arith, eqb-true (reg m r) 0 e)))
+      (λ e. lt-leb (reg m r) 0 (omega (arith, eqb-false (reg m r) 0 e)))
+
+  pub negr-overflow : executeOf c w m (Negr r d) .after .state .machine .flags .v ≡ eqb (reg m r) sign
+  unfolding executeOf result
+  negr-overflow = negative-overflow (reg m r) h
 
 -- ── shifts ──
 

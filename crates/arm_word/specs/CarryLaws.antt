@@ -13,7 +13,7 @@ use Rattle.arm_word.specs.Choice.{pick}
 use Rattle.arm_word.specs.ChoiceLaws.{by-test}
 use Rattle.arm_word.specs.Word.{modulus, sign, add, sub, complement, shift-right, signed-less}
 use Rattle.arm_word.specs.Carry.{differ, bit, signed, same-integer, unsigned-sum, sum-word, carry-out, overflow, last-left, last-right}
-use Rattle.arm_word.specs.WordLaws.{shift-left-small, shift-left-large, shift-right-small, shift-right-large}
+use Rattle.arm_word.specs.WordLaws.{same-order, shift-left-small, shift-left-large, shift-right-small, shift-right-large}
 
 -- ── integers as differences of naturals ──
 
@@ -33,13 +33,6 @@ signed-difference a h =
     by-test (λ t. pick t (pos a) (negsuc (4294967295 - a)) ≡ subℕ a (wrap a)) (ltb a 2147483648)
     (λ p. let p′ = ltb-true a 2147483648 p in sym (difference-high a (wrap a) (omega arith) ∙ ap pos (omega arith)))
     (λ p. let p′ = ltb-false a 2147483648 p in sym (difference-low a (wrap a) (omega arith) ∙ ap negsuc (omega arith)))
-
--- two orders that hold together are the same
-same-order : (a b c d : ℕ) → (a ≤ b → c ≤ d) → (c ≤ d → a ≤ b) → leb a b ≡ leb c d
-same-order a b c d f g =
-    by-test (λ t. t ≡ leb c d) (leb a b)
-    (λ p. sym (le-leb c d (f (leb-true a b p))))
-    (λ p. by-test (λ t. false ≡ t) (leb c d) (λ q. absurd (omega (arith, leb-false a b p, g (leb-true c d q)))) (λ _. refl))
 
 -- ── the overflow ──
 
@@ -231,6 +224,18 @@ module _ (x y : ℕ) (hx : x < 4294967296) (hy : y < 4294967296) where
       at true false true p q r = sym (lt-ltb left right (omega (arith, leb-true sign x p, leb-false sign (complement y) q, leb-true sign (sub x y) r)))
       at true true false p q r = sym (lt-ltb left right (omega (arith, leb-true sign x p, leb-true sign (complement y) q, leb-false sign (sub x y) r)))
       at true true true p q r = sym (lt-ltb left right (omega (arith, leb-true sign x p, leb-true sign (complement y) q, leb-true sign (sub x y) r)))
+
+-- 0 - y overflows where y is the least number
+pub negative-overflow : (y : ℕ) → y < 4294967296 → overflow 0 (complement y) true ≡ eqb y sign
+negative-overflow y h =
+    overflow-signs 0 (complement y) true (omega arith) (omega arith)
+    ∙ rw (difference-word 0 y h) (at (leb sign (complement y)) (leb sign (sub 0 y)) refl refl)
+  where
+    at : (t u : Bool) → leb sign (complement y) ≡ t → leb sign (sub 0 y) ≡ u → pick (differ false u) (differ t u) false ≡ eqb y sign
+    at false false q r = sym (ne-eqb y sign (λ e. omega (arith, leb-false sign (sub 0 y) r)))
+    at true false q r = sym (ne-eqb y sign (λ e. omega (arith, leb-false sign (sub 0 y) r)))
+    at false true q r = sym (eq-eqb y sign (omega (arith, leb-false sign (complement y) q, leb-true sign (sub 0 y) r)))
+    at true true q r = sym (ne-eqb y sign (λ e. omega (arith, leb-true sign (complement y) q)))
 
 -- ── the last bit out is the manual's: of the word extended at the end that it leaves by, the bit next to the result ──
 

@@ -1,13 +1,13 @@
 -- Laws of words: shifts of words are words, what shifts give, and the signed order against the integers. Rests on Word.
 use mathlib.Core.Path.{_≡_, refl, sym}
 use mathlib.Core.Bool.{false}
-use Prim.Native.Nat.{ℕ, _+_, _-_, _*_, _/_, _%_, _^_, _≤_, _<_}
+use Prim.Native.Nat.{ℕ, suc, _+_, _-_, _*_, _/_, _%_, _^_, _≤_, _<_}
 use native.Mathlib.Nat.{mod-lt, div-le-self, lt-of-le-of-lt}
 use native.Mathlib.Omega.{arith}
-use lib.Dec.{ltb, lit<}
+use lib.Dec.{ltb, leb, lit<}
 use lib.IntN.{pos, negsuc}
 use lib.Signed.{ltZ}
-use borrow.Author.Tests.{lt-ltb, le-ltb, ltb-true, ltb-false}
+use borrow.Author.Tests.{lt-ltb, le-ltb, ltb-true, ltb-false, le-leb, leb-true, leb-false}
 use Rattle.arm_word.specs.Choice.{pick}
 use Rattle.arm_word.specs.ChoiceLaws.{by-test}
 use Rattle.arm_word.specs.Carry.{signed}
@@ -54,12 +54,12 @@ pub signed-neg : (a : ℕ) → 2147483648 ≤ a → signed a ≡ negsuc (4294967
 unfolding signed
 signed-neg a h = rw (le-ltb a 2147483648 h)
 
--- two tests that hold together are the same
-same-test : (a b c d : ℕ) → (a < b → c < d) → (c < d → a < b) → ltb a b ≡ ltb c d
-same-test a b c d f g =
-    by-test (λ t. t ≡ ltb c d) (ltb a b)
-    (λ e. sym (lt-ltb c d (f (ltb-true a b e))))
-    (λ e. by-test (λ t. false ≡ t) (ltb c d) (λ h. absurd (omega (arith, ltb-false a b e, g (ltb-true c d h)))) (λ _. refl))
+-- two orders that hold together are the same test; x < y is suc x ≤ y
+pub same-order : (a b c d : ℕ) → (a ≤ b → c ≤ d) → (c ≤ d → a ≤ b) → leb a b ≡ leb c d
+same-order a b c d f g =
+    by-test (λ t. t ≡ leb c d) (leb a b)
+    (λ p. sym (le-leb c d (f (leb-true a b p))))
+    (λ p. by-test (λ t. false ≡ t) (leb c d) (λ q. absurd (omega (arith, leb-false a b p, g (leb-true c d q)))) (λ _. refl))
 
 -- "`<` and its kin compare as signed numbers"
 pub signed-less-integers : (a b : ℕ) → a < 4294967296 → b < 4294967296 → signed-less a b ≡ ltZ (signed a) (signed b)
@@ -71,10 +71,10 @@ signed-less-integers a b ha hb =
     (λ p.
     let p′ = ltb-true a 2147483648 p in
     by-test (λ _. ltb x y ≡ ltZ (signed a) (signed b)) (ltb b 2147483648)
-    (λ q. let q′ = ltb-true b 2147483648 q in rw (signed-pos a p′, signed-pos b q′) (same-test x y a b (λ h. omega arith) (λ h. omega arith)))
+    (λ q. let q′ = ltb-true b 2147483648 q in rw (signed-pos a p′, signed-pos b q′) (same-order (suc x) y (suc a) b (λ h. omega arith) (λ h. omega arith)))
     (λ q. let q′ = ltb-false b 2147483648 q in rw (signed-pos a p′, signed-neg b q′) (le-ltb x y (omega arith))))
     (λ p.
     let p′ = ltb-false a 2147483648 p in
     by-test (λ _. ltb x y ≡ ltZ (signed a) (signed b)) (ltb b 2147483648)
     (λ q. let q′ = ltb-true b 2147483648 q in rw (signed-neg a p′, signed-pos b q′) (lt-ltb x y (omega arith)))
-    (λ q. let q′ = ltb-false b 2147483648 q in rw (signed-neg a p′, signed-neg b q′) (same-test x y (4294967295 - b) (4294967295 - a) (λ h. omega arith) (λ h. omega arith))))
+    (λ q. let q′ = ltb-false b 2147483648 q in rw (signed-neg a p′, signed-neg b q′) (same-order (suc x) y (suc (4294967295 - b)) (4294967295 - a) (λ h. omega arith) (λ h. omega arith))))
