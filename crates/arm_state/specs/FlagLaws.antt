@@ -2,7 +2,7 @@
 use mathlib.Core.Path.{_≡_, refl, ap, _∙_}
 use mathlib.Core.Bool.{Bool, true, false, not}
 use mathlib.Core.List.{List}
-use Prim.Native.Nat.{ℕ, _+_, _*_, _/_, _%_, _<_}
+use Prim.Native.Nat.{ℕ, _+_, _-_, _*_, _/_, _%_, _<_}
 use native.Mathlib.Omega.{arith}
 use lib.ListN.{length}
 use lib.Dec.{leb, eqb}
@@ -10,12 +10,14 @@ use borrow.Author.Tests.{eqb-true, eqb-false, eq-eqb, ne-eqb, le-leb, lt-leb}
 use Rattle.arm_word.specs.Choice.{pick}
 use Rattle.arm_word.specs.ChoiceLaws.{by-test}
 use Rattle.arm_word.specs.Word.{sign, sub, signed-less}
+use Rattle.arm_word.specs.WordLaws.{shift-left-large, shift-right-large}
+use Rattle.arm_word.specs.Carry.{last-left, last-right}
 use Rattle.arm_word.specs.CarryLaws.{difference-word, difference-carry, negative-overflow, less-flags, last-left-extended, last-right-extended}
 use Rattle.arm_encoding.specs.declared.Instr.{Instr}
 use Rattle.arm_encoding.specs.declared.Instr.the-variants.{Shli, Shri, Ashri, Addr, Subr, Movi, Addi, Subi, Ldrpci, Strspi, Ldrspi, Addpci, Addspi, Andr, Xorr, Shl, Shr, Negr, Orr, Mul}
 use Rattle.arm_encoding.specs.declared.Instr.the-variants.{Mvnr, Str, Ldr}
 use Rattle.arm_encoding.specs.declared.Instr.the-variants.{Stri, Ldri, Incsp, Decsp, Svc, Beq, Bne, Bge, Blt, Bu, Bl}
-use Rattle.arm_state.specs.State.{reg, next, takes, result, subtracts, shifts-left, shifts-right, less, moves, jump, branch, link}
+use Rattle.arm_state.specs.State.{reg, next, takes, result, subtracts, shifts-left, shifts-right, shifts-right-signed, less, moves, jump, branch, link}
 use Rattle.arm_state.specs.Effects.{Effect, goes, alignedOf, slotOf, codeWord, loadSlot, loadAt, load, storeSlot, storeAt, store, executeOf}
 use Rattle.arm_state.specs.declared.Aligned.{Aligned}
 use Rattle.arm_state.specs.declared.Aligned.the-variants.{Address, Not}
@@ -96,6 +98,19 @@ left-by-32 m d x = let e : x * 4294967296 / 4294967296 % 2 ≡ x % 2 = omega ari
 pub right-by-32 : (m : Machine) (d x : ℕ) → x < 4294967296 → shifts-right m d x 32 .flags .c ≡ eqb (x / 2147483648 % 2) 1
 unfolding result
 right-by-32 m d x h = last-right-extended x 32 h (omega arith)
+
+pub signed-by-32 : (m : Machine) (d x : ℕ) → x < 4294967296 → shifts-right-signed m d x 32 .flags .c ≡ eqb (x / 2147483648 % 2) 1
+unfolding result
+signed-by-32 m d x h = last-right-extended x 32 h (omega arith)
+
+-- above 32, C is 0
+pub left-above-32 : (m : Machine) (d x n : ℕ) → 32 < n → shifts-left m d x n .flags .c ≡ false
+unfolding result last-left
+left-above-32 m d x n h = rw (ne-eqb n 0 (λ e. omega arith), shift-left-large x (n - 1) (omega arith))
+
+pub right-above-32 : (m : Machine) (d x n : ℕ) → 32 < n → shifts-right m d x n .flags .c ≡ false
+unfolding result last-right
+right-above-32 m d x n h = rw (ne-eqb n 0 (λ e. omega arith), shift-right-large x (n - 1) (omega arith))
 
 -- ── what isn't named stays ──
 

@@ -405,7 +405,7 @@ fn wrong_other_bits_are_noticed() {
 
 // ── document 01's one word for the last result ──
 
-/// "rs takes the result of shifts, ADDR, SUBR, MOVI, ADDI, SUBI, ANDR, ORR, XORR, NEGR, MVNR, MUL."
+/// It took "the result of shifts, ADDR, SUBR, MOVI, ADDI, SUBI, ANDR, ORR, XORR, NEGR, MVNR, MUL".
 const RESULTS: [Op; 16] =
     [Shli, Shri, Ashri, Shl, Shr, Addr, Subr, Movi, Addi, Subi, Andr, Orr, Xorr, Negr, Mvnr, Mul];
 
