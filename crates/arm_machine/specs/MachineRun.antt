@@ -27,6 +27,10 @@ abbrev pub onward : Bool → RunAfter → After → ℕ → RunAfter
 onward true more a k = more
 onward false more a k = run-after (ran (a .state) k) (a .words)
 
+-- of what a run counted, the SVC that ended it, if one did
+abbrev pub svc-count : ℕ → ℕ
+svc-count status = pick (eqb status 1) 1 0
+
 -- The machine: "it goes on step by step until the limit is reached, unless SVC or a fault ends it before": at most n more steps, k being counted.
 -- "SVC ... counts; a faulting instruction doesn't count": the count is the sum of the steps'
 unfoldable pub runFrom : ℕ → ℕ → List ℕ → List ℕ → Machine → RunAfter

@@ -46,11 +46,11 @@ shift-right-large a n h = rw (le-ltb n 32 h)
 
 -- ── words read as signed numbers ──
 
-pub signed-pos : (a : ℕ) → a < 2147483648 → signed a ≡ pos a
+signed-pos : (a : ℕ) → a < 2147483648 → signed a ≡ pos a
 unfolding signed
 signed-pos a h = rw (lt-ltb a 2147483648 h)
 
-pub signed-neg : (a : ℕ) → 2147483648 ≤ a → signed a ≡ negsuc (4294967295 - a)
+signed-neg : (a : ℕ) → 2147483648 ≤ a → signed a ≡ negsuc (4294967295 - a)
 unfolding signed
 signed-neg a h = rw (le-ltb a 2147483648 h)
 

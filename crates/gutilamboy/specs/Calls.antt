@@ -8,7 +8,7 @@ use Rattle.arm_state.specs.Effects.{After}
 use Rattle.arm_state.specs.declared.Machine.{Machine}
 use Rattle.arm_state.specs.declared.Stepped.{Stepped}
 use Rattle.arm_machine.specs.Step.{stepOf}
-use Rattle.arm_machine.specs.MachineRun.{RunAfter, runOf}
+use Rattle.arm_machine.specs.MachineRun.{RunAfter, svc-count, runOf}
 use Rattle.arm_machine.specs.Start.{startOf}
 use Rattle.arm_machine.specs.declared.Ran.{Ran}
 use Rattle.arm_machine.specs.declared.Started.{Started}
@@ -57,9 +57,6 @@ abbrev pub ofStep : List ℕ → After → Left
 ofStep state a = left (steppedWords (a .state)) (handed (eqb (a .state .status) 0) (a .state .machine) state) (a .words)
 
 -- an SVC counts, and leaves the state to the instructions before it
-abbrev pub svc-count : ℕ → ℕ
-svc-count status = pick (eqb status 1) 1 0
-
 abbrev pub ofRun : List ℕ → RunAfter → Left
 ofRun state r = left (ranWords (r .state)) (handed (ltb (svc-count (r .state .status)) (r .state .count)) (r .state .machine) state) (r .words)
 

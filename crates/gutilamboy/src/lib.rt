@@ -1,6 +1,7 @@
 // The C boundary: translate, start, step and run over lent slices and lent arrays of words.
 // A slice is a pointer and a length; an array is a pointer to as many words as its type says.
 ghost use mathlib.Core.Path.{_≡_};
+ghost use Rattle.arm_machine.specs.MachineRun as runs;
 ghost use Rattle.gutilamboy.specs.Calls as calls;
 use gutilamboy_numbers::state_of;
 use gutilamboy_numbers::state_words;
@@ -56,7 +57,7 @@ pub extern "C" fn gutilamboy_step(
 
 // 1 for a run that an SVC ended: it counts, and completes nothing.
 fn svc_count(status: u32) -> u64
-    ensures { λ r. ⌜ r ≡ calls.svc-count status ⌝ }
+    ensures { λ r. ⌜ r ≡ runs.svc-count status ⌝ }
 {
     if status == 1 { 1 } else { 0 }
 }

@@ -16,13 +16,13 @@ use Rattle.arm_word.specs.ChoiceLaws.{by-test}
 use Rattle.arm_word.specs.Access.{Access}
 use Rattle.arm_machine.specs.Step.{stepOf}
 use Rattle.arm_machine.specs.StepLaws.{step-kept}
-use Rattle.arm_machine.specs.MachineRun.{runOf}
+use Rattle.arm_machine.specs.MachineRun.{svc-count, runOf}
 use Rattle.arm_machine.specs.RunStill.{run-still}
 use Rattle.arm_machine.specs.Iterations.{run-length, run-registers}
 use Rattle.arm_machine.specs.declared.Started.{Started}
 use Rattle.gutilamboy_numbers.specs.Numbers.{stateWords}
 use Rattle.gutilamboy_numbers.specs.NumberLaws.{state-back}
-use Rattle.gutilamboy.specs.Calls.{left, ofStart, steppedWords, ranWords, handed, svc-count, runCall, translateLeft, translateCall}
+use Rattle.gutilamboy.specs.Calls.{left, ofStart, steppedWords, ranWords, handed, runCall, translateLeft, translateCall}
 use Rattle.theorem_simulation.specs.Demand3.{Each, D, N, Lent, Call, step, run, Called, call, calls, started, Answered, EndsBy, Demand3}
 use Rattle.theorem_simulation.specs.Iterated.{most, call-is-run}
 use Rattle.theorem_simulation.specs.Demand4.{Alike, Both}
