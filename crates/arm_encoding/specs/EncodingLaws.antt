@@ -258,7 +258,7 @@ unfolding table all-sound
 found-in-table h i = found table refl made h i
 
 -- the cases of a decoding that gave an instruction
-known-cases : (h s : ℕ) (i : Instr) (P : Type 0) → decodeOf h s ≡ Known i
+pub known-cases : (h s : ℕ) (i : Instr) (P : Type 0) → decodeOf h s ≡ Known i
     → (ltb h 0xF000 ≡ true → find table h ≡ Known i → P)
     → (ltb h 0xF000 ≡ false → h < 0xF800 → 0xF800 ≤ s → Bl (widen 2097152 ((h - 0xF000) * 2048 + (s - 0xF800))) ≡ i → P)
     → P

@@ -1,79 +1,111 @@
--- Laws of the table: its forms stand in order and apart, so a halfword of a form finds its row, and one between two forms finds none. Rests on Encoding.
-use mathlib.Core.Path.{_≡_, refl, sym, _∙_}
-use mathlib.Core.Bool.{Bool, true, false}
+-- Laws of the table: its forms stand in order and apart, so a halfword of a form finds its row, and one between two forms finds none. Rests on Encoding and on the laws of ranges.
+use mathlib.Core.Path.{_≡_, refl, sym, ap, _∙_}
+use mathlib.Core.Bool.{Bool, true, false, _&&_}
 use mathlib.Core.Logic.{⊎-elim}
 use mathlib.Core.List.{List, [], _∷_}
-use Prim.Native.Nat.{ℕ, zero, suc, _+_, _*_, _/_, _%_, _≤_, _<_}
-use native.Mathlib.Nat.{div-add-mod', div-div-eq-div-mul, mod-lt, le-trans, le-of-suc-le-suc, not-suc-le-zero}
+use Prim.Native.Nat.{ℕ, zero, suc, _+_, _-_, _*_, _/_, _%_, _≤_, _<_}
+use native.Mathlib.Nat.{div-add-mod', div-div-eq-div-mul, mod-lt}
 use native.Mathlib.Omega.{arith}
 use lib.ListN.{length, getD}
 use lib.Dec.{ltb, leb, eqb}
-use borrow.Author.Tests.{lt-ltb, le-ltb, le-leb, leb-true, ltb-true, eqb-true, eqb-false}
+use borrow.Author.Tests.{lt-ltb, le-ltb, le-leb, lt-leb, ltb-true, ltb-false, eqb-true, eqb-false}
 use Rattle.arm_word.specs.Choice.{pick}
-use Rattle.arm_word.specs.ChoiceLaws.{by-test, both, either}
+use Rattle.arm_word.specs.ChoiceLaws.{by-test, pick-and, both, either}
+use Rattle.arm_word.specs.Ranges.{from-to, Range, range, look}
+use Rattle.arm_word.specs.RangeLaws.{after, ordered, hit, plain, miss, holding, held-by-none}
 use Rattle.arm_encoding.specs.declared.Decoded.{Decoded}
 use Rattle.arm_encoding.specs.declared.Decoded.the-variants.{Known, Unknown}
 use Rattle.arm_encoding.specs.declared.Instr.the-variants.{Shli}
-use Rattle.arm_encoding.specs.Encoding.{Row, row, form, end, cut, within, find, table}
+use Rattle.arm_encoding.specs.Encoding.{Form, Row, row, form, end, cut, within, find, table}
 
--- every row of t starts at e or later
-unfoldable pub after : ℕ → List Row → Bool
-after e [] = true
-after e (r ∷ rows) = pick (leb e (r .shape .base)) (after e rows) false
+-- ── the table as ranges ──
 
-unfoldable pub ordered : List Row → Bool
-ordered [] = true
-ordered (r ∷ rows) = pick (after (end (r .shape)) rows) (ordered rows) false
+-- a row's halfwords, and the instruction of each
+abbrev pub range-of : Row → Range (ℕ → Decoded)
+range-of r = range (r .shape .base) (end (r .shape) - 1) (λ h. Known (cut r h))
 
--- no row of t has a halfword from lo up to hi
-unfoldable pub clear : ℕ → ℕ → List Row → Bool
-clear lo hi [] = true
-clear lo hi (r ∷ rows) = pick (pick (leb (end (r .shape)) lo) true (leb hi (r .shape .base))) (clear lo hi rows) false
+unfoldable pub ranges : List Row → List (Range (ℕ → Decoded))
+ranges [] = []
+ranges (r ∷ rows) = range-of r ∷ ranges rows
 
-after-at : (e : ℕ) (t : List Row) (d : Row) (k : ℕ) → after e t ≡ true → k < length t → e ≤ getD t k d .shape .base
-unfolding after
-after-at e [] d k o p = absurd (not-suc-le-zero p)
-after-at e (r ∷ rows) d zero o p = leb-true e (r .shape .base) (both (leb e (r .shape .base)) (after e rows) o .0)
-after-at e (r ∷ rows) d (suc k) o p = after-at e rows d k (both (leb e (r .shape .base)) (after e rows) o .1) (le-of-suc-le-suc p)
+-- every form ends above 0
+unfoldable some : List Row → Bool
+some [] = true
+some (r ∷ rows) = pick (ltb 0 (end (r .shape))) (some rows) false
 
-hit : (t : List Row) (d : Row) (k h : ℕ) → ordered t ≡ true → k < length t → getD t k d .shape .base ≤ h → h < end (getD t k d .shape) → find t h ≡ Known (cut (getD t k d) h)
-unfolding find ordered
-hit [] d k h o p l u = absurd (not-suc-le-zero p)
-hit (r ∷ rows) d zero h o p l u = rw (le-leb (r .shape .base) h l, lt-ltb h (end (r .shape)) u)
-hit (r ∷ rows) d (suc k) h o p l u =
-    let w = both (after (end (r .shape)) rows) (ordered rows) o in
-    let g = le-trans (after-at (end (r .shape)) rows d k (w .0) (le-of-suc-le-suc p)) l in
-    rw (le-ltb h (end (r .shape)) g) (past (leb (r .shape .base) h) (find rows h) (Known (cut r h)) ∙ hit rows d k h (w .1) (le-of-suc-le-suc p) l u)
-  where
-    past : (b : Bool) (x y : Decoded) → pick (pick b false false) y x ≡ x
-    past true x y = refl
-    past false x y = refl
+same-within : (f : Form) (h : ℕ) → 0 < end f → within f h ≡ from-to (f .base) (end f - 1) h
+same-within f h p =
+    pick-and (leb (f .base) h) (ltb h (end f))
+    ∙ ap (λ (t : Bool). leb (f .base) h && t)
+    (by-test (λ _. ltb h (end f) ≡ leb h (end f - 1)) (ltb h (end f))
+    (λ e. let l = ltb-true h (end f) e in rw (lt-ltb h (end f) l, le-leb h (end f - 1) (omega arith)))
+    (λ e. let l = ltb-false h (end f) e in rw (le-ltb h (end f) l, lt-leb h (end f - 1) (omega arith))))
 
-miss : (t : List Row) (lo hi h : ℕ) → clear lo hi t ≡ true → lo ≤ h → h < hi → find t h ≡ Unknown
-unfolding find clear
-miss [] lo hi h o l u = refl
-miss (r ∷ rows) lo hi h o l u =
-    let b = r .shape .base in
-    let e = end (r .shape) in
-    let w = both (pick (leb e lo) true (leb hi b)) (clear lo hi rows) o in
-    by-test (λ t. pick t (Known (cut r h)) (find rows h) ≡ Unknown) (within (r .shape) h)
-    (λ i.
-    let v = both (leb b h) (ltb h e) i in
-    let f = leb-true b h (v .0) in
-    let g = ltb-true h e (v .1) in
-    ⊎-elim (λ x. absurd (omega (arith, leb-true e lo x))) (λ x. absurd (omega (arith, leb-true hi b x))) (either (leb e lo) (leb hi b) (w .0)))
-    (λ i. miss rows lo hi h (w .1) l u)
+find-look : (t : List Row) (h : ℕ) → some t ≡ true → find t h ≡ look (λ _. Unknown) (ranges t) h h
+unfolding find look ranges some
+find-look [] h o = refl
+find-look (r ∷ rows) h o =
+    let w = both (ltb 0 (end (r .shape))) (some rows) o in
+    rw (same-within (r .shape) h (ltb-true 0 (end (r .shape)) (w .0)))
+    (by-test (λ b. pick b (Known (cut r h)) (find rows h) ≡ pick b (λ x. Known (cut r x)) (look (λ _. Unknown) (ranges rows) h) h) (from-to (r .shape .base) (end (r .shape) - 1) h)
+    (λ _. refl)
+    (λ _. find-look rows h (w .1)))
+
+pub find-ranges : (h : ℕ) → find table h ≡ look (λ _. Unknown) (ranges table) h h
+unfolding table some
+find-ranges h = find-look table h refl
+
+-- what is no instruction is in no row, and what is in none is no instruction
+unknown-held : (t : List Row) (h : ℕ) → look (λ _. Unknown) (ranges t) h h ≡ Unknown → holding (ranges t) h ≡ 0
+unfolding look ranges holding
+unknown-held [] h = λ _. refl
+unknown-held (r ∷ rows) h =
+    by-test (λ b. pick b (λ x. Known (cut r x)) (look (λ _. Unknown) (ranges rows) h) h ≡ Unknown → pick b 1 0 + holding (ranges rows) h ≡ 0)
+    (from-to (r .shape .base) (end (r .shape) - 1) h)
+    (λ _ e. absurd (let z : _≡_ {A = ℕ} 0 1 = cc in omega arith))
+    (λ _ e. omega (arith, unknown-held rows h e))
+
+pub unknown-in-none : (h : ℕ) → find table h ≡ Unknown → holding (ranges table) h ≡ 0
+unknown-in-none h e = unknown-held table h (sym (find-ranges h) ∙ e)
+
+pub in-none-unknown : (h : ℕ) → holding (ranges table) h ≡ 0 → find table h ≡ Unknown
+in-none-unknown h e = find-ranges h ∙ ap (λ (f : ℕ → Decoded). f h) (held-by-none (λ _. Unknown) (ranges table) h e)
+
+ranges-at : (t : List Row) (d : Row) (k : ℕ) → getD (ranges t) k (range-of d) ≡ range-of (getD t k d)
+unfolding ranges
+ranges-at [] d k = refl
+ranges-at (r ∷ rows) d zero = refl
+ranges-at (r ∷ rows) d (suc k) = ranges-at rows d k
 
 -- row k of the table
+abbrev none : Row
+none = row (form 0 1 1 1) Shli
+
 abbrev pub at : ℕ → Row
-at k = getD table k (row (form 0 1 1 1) Shli)
+at k = getD table k none
+
+in-order : ordered (ranges table) ≡ true
+unfolding table ranges ordered after
+in-order = refl
+
+rows : length (ranges table) ≡ 33
+unfolding table ranges
+rows = refl
 
 pub row-hit : (k h : ℕ) → k < 33 → at k .shape .base ≤ h → h < end (at k .shape) → find table h ≡ Known (cut (at k) h)
-unfolding table ordered after
-row-hit k h p l u = hit table (row (form 0 1 1 1) Shli) k h refl p l u
+row-hit k h p l u =
+    let e = ranges-at table none k in
+    find-ranges h
+    ∙ ap (λ (f : ℕ → Decoded). f h) (hit (λ _. Unknown) (ranges table) (range-of none) k h in-order (rw rows p) (rw e l) (rw e (omega arith)))
+    ∙ ap (λ (r : Range (ℕ → Decoded)). r .value h) e
 
-pub row-miss : (lo hi h : ℕ) → clear lo hi table ≡ true → lo ≤ h → h < hi → find table h ≡ Unknown
-row-miss lo hi h o l u = miss table lo hi h o l u
+-- no row has a halfword from lo to hi
+abbrev pub clear : ℕ → ℕ → Bool
+clear lo hi = plain (λ _. false) lo hi (ranges table)
+
+pub row-miss : (lo hi h : ℕ) → clear lo hi ≡ true → lo ≤ h → h ≤ hi → find table h ≡ Unknown
+row-miss lo hi h o l u =
+    find-ranges h ∙ ap (λ (f : ℕ → Decoded). f h) (miss (λ _. Unknown) (λ _. false) (λ a e. absurd (let z : _≡_ {A = ℕ} 0 1 = cc in omega arith)) (ranges table) lo hi h o l u)
 
 -- ── blocks: the halfwords of one length that share a quotient, which a decoder's arms go by ──
 
@@ -94,7 +126,7 @@ not-listed (k ∷ ks) x r e = ⊎-elim (λ t. r .1 (eqb-true x k t)) (λ t. not-
 -- of the n blocks of length s from block a on, those whose number isn't listed hold no form's halfword
 unfoldable pub blocks-clear : List ℕ → ℕ → ℕ → ℕ → Bool
 blocks-clear ks s a zero = true
-blocks-clear ks s a (suc n) = pick (pick (listed ks a) true (clear (a * s) (a * s + s) table)) (blocks-clear ks s (a + 1) n) false
+blocks-clear ks s a (suc n) = pick (pick (listed ks a) true (clear (a * s) (a * s + s - 1))) (blocks-clear ks s (a + 1) n) false
 
 pub block-miss : (ks : List ℕ) (s a n h : ℕ) → 0 < s → blocks-clear ks s a n ≡ true → a ≤ h / s → h / s < a + n → NoneOf ks (h / s) → find table h ≡ Unknown
 unfolding blocks-clear
@@ -106,12 +138,12 @@ block-miss ks s a n h p o l u r =
     at-block : (n a q : ℕ) → blocks-clear ks s a n ≡ true → a ≤ q → q < a + n → q * s ≤ h → h < q * s + s → NoneOf ks q → find table h ≡ Unknown
     at-block zero a q o l u f g r = absurd (omega arith)
     at-block (suc n) a q o l u f g r =
-        let w = both (pick (listed ks a) true (clear (a * s) (a * s + s) table)) (blocks-clear ks s (a + 1) n) o in
+        let w = both (pick (listed ks a) true (clear (a * s) (a * s + s - 1))) (blocks-clear ks s (a + 1) n) o in
         by-test (λ _. find table h ≡ Unknown) (eqb q a)
         (λ t.
         let q≡ = eqb-true q a t in
-        ⊎-elim (λ x. absurd (not-listed ks a (rw q≡ at r) x)) (λ x. row-miss (a * s) (a * s + s) h x (rw q≡ at f) (rw q≡ at g))
-        (either (listed ks a) (clear (a * s) (a * s + s) table) (w .0)))
+        ⊎-elim (λ x. absurd (not-listed ks a (rw q≡ at r) x)) (λ x. row-miss (a * s) (a * s + s - 1) h x (rw q≡ at f) (omega (arith, rw q≡ at g)))
+        (either (listed ks a) (clear (a * s) (a * s + s - 1)) (w .0)))
         (λ t. let d = eqb-false q a t in at-block n (a + 1) q (w .1) (omega arith) (omega arith) f g r)
 
 -- the blocks of one group: the halfwords of a length of m blocks that share a quotient

@@ -1,6 +1,6 @@
 -- The ways to take a choice by a test apart. Laws; assumes nothing.
 use mathlib.Core.Path.{_≡_, refl}
-use mathlib.Core.Bool.{Bool, true, false}
+use mathlib.Core.Bool.{Bool, true, false, _&&_}
 use mathlib.Core.Logic.{_⊎_, inl, inr}
 use Prim.Native.Nat.{ℕ}
 use native.Mathlib.Omega.{arith}
@@ -15,6 +15,11 @@ by-test P false f g = g refl
 pub pick-false : (b : Bool) → pick b false false ≡ false
 pick-false true = refl
 pick-false false = refl
+
+-- both of two tests, as a choice
+pub pick-and : (a b : Bool) → pick a b false ≡ (a && b)
+pick-and true b = refl
+pick-and false b = refl
 
 -- both parts of a test that is true
 pub both : (a b : Bool) → pick a b false ≡ true → (a ≡ true) × (b ≡ true)

@@ -7,8 +7,9 @@ use native.Mathlib.Omega.{arith}
 use lib.Dec.{ltb, lit<}
 use borrow.Author.Tests.{lt-ltb, le-ltb, ltb-true, ltb-false}
 use Rattle.arm_word.specs.ChoiceLaws.{by-test}
+use Rattle.arm_word.specs.RangeLaws.{plain}
 use Rattle.arm_encoding.specs.Encoding.{table, decodeOf}
-use Rattle.arm_encoding.specs.EncodingTable.{NoneOf, row-hit, clear, listed, blocks-clear, block-miss}
+use Rattle.arm_encoding.specs.EncodingTable.{NoneOf, row-hit, ranges, listed, blocks-clear, block-miss}
 use Rattle.arm_encoding.specs.declared.Decoded.the-variants.{Unknown}
 use borrow.Author.Needs.{needs}
 use Rattle.arm_encoding.proofs.decode.Statement.{statement}
@@ -20,7 +21,7 @@ groups = 30 ∷ 28 ∷ 27 ∷ 26 ∷ 22 ∷ 21 ∷ 20 ∷ 19 ∷ 18 ∷ 13 ∷ 1
 
 -- the rest of the halfwords: below F000 its groups hold no form's, and from there on it is F800 to FFFF
 unlisted : (h k : ℕ) → NoneOf groups (h / 2048) → Unknown ≡ decodeOf h k
-unfolding decodeOf table clear listed blocks-clear
+unfolding decodeOf table ranges plain listed blocks-clear
 unlisted h k =
     by-test (λ _. NoneOf groups (h / 2048) → Unknown ≡ decodeOf h k) (ltb h 0xF000)
     (λ e.

@@ -4,8 +4,9 @@ use mathlib.Core.Path.{refl, sym}
 use mathlib.Core.List.{[], _∷_}
 use native.Mathlib.Omega.{arith}
 use lib.Dec.{lit<}
+use Rattle.arm_word.specs.RangeLaws.{plain}
 use Rattle.arm_encoding.specs.Encoding.{table}
-use Rattle.arm_encoding.specs.EncodingTable.{row-hit, clear, listed, blocks-clear, rest-miss}
+use Rattle.arm_encoding.specs.EncodingTable.{row-hit, ranges, listed, blocks-clear, rest-miss}
 use borrow.Author.Needs.{needs}
 use Rattle.arm_encoding.proofs.equality.Statement.{statement}
 use Rattle.arm_encoding.proofs.equality.Tie as tie
@@ -16,4 +17,4 @@ equality-spec = tie.close (tie.spec
     (λ c κs. search needs)
     (λ c. unfold table in rw (c .near .ensures) (sym (row-hit 27 _ (lit< tt) (omega arith) (omega arith))))
     (λ c. unfold table in rw (c .near2 .ensures) (sym (row-hit 28 _ (lit< tt) (omega arith) (omega arith))))
-    (λ c. unfold table clear listed blocks-clear in sym (rest-miss (209 ∷ 208 ∷ []) 256 8 26 _ (lit< tt) (lit< tt) refl (c .before .pre) (c .match .rest))))
+    (λ c. unfold table ranges plain listed blocks-clear in sym (rest-miss (209 ∷ 208 ∷ []) 256 8 26 _ (lit< tt) (lit< tt) refl (c .before .pre) (c .match .rest))))

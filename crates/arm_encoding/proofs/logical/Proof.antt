@@ -4,8 +4,9 @@ use mathlib.Core.Path.{refl, sym}
 use mathlib.Core.List.{[], _∷_}
 use native.Mathlib.Omega.{arith}
 use lib.Dec.{lit<}
+use Rattle.arm_word.specs.RangeLaws.{plain}
 use Rattle.arm_encoding.specs.Encoding.{table}
-use Rattle.arm_encoding.specs.EncodingTable.{row-hit, clear, listed, blocks-clear, rest-miss}
+use Rattle.arm_encoding.specs.EncodingTable.{row-hit, ranges, listed, blocks-clear, rest-miss}
 use borrow.Author.Needs.{needs}
 use Rattle.arm_encoding.proofs.logical.Statement.{statement}
 use Rattle.arm_encoding.proofs.logical.Tie as tie
@@ -38,5 +39,5 @@ logical-spec =
     (λ c. unfold table in rw (c .before .bits3to56 .ensures, c .bits0to26 .ensures) (sym (row-hit 13 _ (lit< tt) (omega arith) (omega arith))))
     (λ c. unfold table in rw (c .before .bits3to57 .ensures, c .bits0to27 .ensures) (sym (row-hit 14 _ (lit< tt) (omega arith) (omega arith))))
     (λ c. unfold table in rw (c .before .bits3to58 .ensures, c .bits0to28 .ensures) (sym (row-hit 15 _ (lit< tt) (omega arith) (omega arith))))
-    (λ c. unfold table clear listed blocks-clear in sym (rest-miss (271 ∷ 269 ∷ 268 ∷ 265 ∷ 259 ∷ 258 ∷ 257 ∷ 256 ∷ []) 64 32 8 _ (lit< tt) (lit< tt) refl
+    (λ c. unfold table ranges plain listed blocks-clear in sym (rest-miss (271 ∷ 269 ∷ 268 ∷ 265 ∷ 259 ∷ 258 ∷ 257 ∷ 256 ∷ []) 64 32 8 _ (lit< tt) (lit< tt) refl
     (c .before .pre) (c .match .rest))))

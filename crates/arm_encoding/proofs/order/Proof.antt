@@ -4,8 +4,9 @@ use mathlib.Core.Path.{refl, sym}
 use mathlib.Core.List.{[], _∷_}
 use native.Mathlib.Omega.{arith}
 use lib.Dec.{lit<}
+use Rattle.arm_word.specs.RangeLaws.{plain}
 use Rattle.arm_encoding.specs.Encoding.{table}
-use Rattle.arm_encoding.specs.EncodingTable.{row-hit, clear, listed, blocks-clear, rest-miss}
+use Rattle.arm_encoding.specs.EncodingTable.{row-hit, ranges, listed, blocks-clear, rest-miss}
 use borrow.Author.Needs.{needs}
 use Rattle.arm_encoding.proofs.order.Statement.{statement}
 use Rattle.arm_encoding.proofs.order.Tie as tie
@@ -20,4 +21,4 @@ order-spec =
     (λ c. unfold table in rw (c .near .ensures) (sym (row-hit 29 _ (lit< tt) (omega arith) (omega arith))))
     (λ c. unfold table in rw (c .near2 .ensures) (sym (row-hit 30 _ (lit< tt) (omega arith) (omega arith))))
     (λ c. unfold table in rw (c .bits0to7 .ensures) (sym (row-hit 31 _ (lit< tt) (omega arith) (omega arith))))
-    (λ c. unfold table clear listed blocks-clear in sym (rest-miss (223 ∷ 219 ∷ 218 ∷ []) 256 8 27 _ (lit< tt) (lit< tt) refl (c .before .pre) (c .match .rest))))
+    (λ c. unfold table ranges plain listed blocks-clear in sym (rest-miss (223 ∷ 219 ∷ 218 ∷ []) 256 8 27 _ (lit< tt) (lit< tt) refl (c .before .pre) (c .match .rest))))

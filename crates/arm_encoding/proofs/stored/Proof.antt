@@ -4,8 +4,9 @@ use mathlib.Core.Path.{refl, sym}
 use mathlib.Core.List.{[], _∷_}
 use native.Mathlib.Omega.{arith}
 use lib.Dec.{lit<}
+use Rattle.arm_word.specs.RangeLaws.{plain}
 use Rattle.arm_encoding.specs.Encoding.{table}
-use Rattle.arm_encoding.specs.EncodingTable.{row-hit, clear, listed, blocks-clear, rest-miss}
+use Rattle.arm_encoding.specs.EncodingTable.{row-hit, ranges, listed, blocks-clear, rest-miss}
 use borrow.Author.Needs.{needs}
 use Rattle.arm_encoding.proofs.stored.Statement.{statement}
 use Rattle.arm_encoding.proofs.stored.Tie as tie
@@ -17,4 +18,4 @@ stored-spec =
     (λ c κs. search needs)
     (λ c κs. search needs)
     (λ c. unfold table in rw (c .before .before .bits6to8 .ensures, c .before .bits3to5 .ensures, c .bits0to2 .ensures) (sym (row-hit 17 _ (lit< tt) (omega arith) (omega arith))))
-    (λ c. unfold table clear listed blocks-clear in sym (rest-miss (40 ∷ []) 512 4 10 _ (lit< tt) (lit< tt) refl (c .before .pre) (c .match .rest))))
+    (λ c. unfold table ranges plain listed blocks-clear in sym (rest-miss (40 ∷ []) 512 4 10 _ (lit< tt) (lit< tt) refl (c .before .pre) (c .match .rest))))
