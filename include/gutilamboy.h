@@ -18,7 +18,7 @@ extern "C" {
 #endif
 
 /* The version of this interface: the major number changes where a caller must change too. */
-#define GUTILAMBOY_VERSION_MAJOR 3
+#define GUTILAMBOY_VERSION_MAJOR 4
 #define GUTILAMBOY_VERSION_MINOR 0
 
 /* ---- limits ---- */
@@ -100,19 +100,38 @@ struct gutilamboy_state {
 };
 
 /* Status of step and run: an instruction completed, or the limit was reached; an SVC, whose number is `number`, a
- * finish, stop or bad subscript of an image; a fault; a refusal, which start gives too. `number` is 0 but of an SVC.
+ * finish, stop or bad subscript of an image; a fault; a refusal, which start gives too. `number` is the class of an
+ * unsupported instruction, and 0 of every other fault, a refusal and an instruction that completed.
  * After a fault, a refusal or an SVC state and memory are as before that instruction: pc stands at it. Each check of
  * a subscript has two SVCs of its own, so the pc of a bad subscript tells which check failed. */
 #define GUTILAMBOY_DONE 0
 #define GUTILAMBOY_SVC 1
 #define GUTILAMBOY_FAULT_FETCH 21       /* pc odd, or a byte of the instruction outside code */
-#define GUTILAMBOY_FAULT_INSTRUCTION 22 /* not an instruction of the list */
+#define GUTILAMBOY_FAULT_UNDEFINED 22   /* not in the list, and undefined or unpredictable in Armv6-M: garbage */
 #define GUTILAMBOY_FAULT_ALIGNMENT 23   /* address not a multiple of 4 */
 #define GUTILAMBOY_FAULT_ADDRESS 24     /* a byte outside memory, or a store not in data */
+#define GUTILAMBOY_FAULT_UNSUPPORTED 26 /* good Armv6-M that is not in the list; its class is `number` */
 #define GUTILAMBOY_LONG_CODE 31         /* code above 65,536 bytes */
 #define GUTILAMBOY_LONG_MEMORY 32       /* memory above 16,384 words */
 #define GUTILAMBOY_SHORT_MEMORY 33      /* start: fewer words than needed */
 #define GUTILAMBOY_BAD_NUMBERS 34       /* start: data above 8,192 or depth above 32 */
+
+/* Classes of instructions: the lines of the Armv6-M manual's table of 16-bit instructions, then all 32-bit ones. 22 and
+ * 26 go by the halfwords alone (docs/CLASSES.md has each). Classes 4, 6, 7 and 12 are in the list whole, so 26 never has
+ * them. */
+#define GUTILAMBOY_CLASS_IMMEDIATE 1       /* shift (immediate), add, subtract, move, and compare */
+#define GUTILAMBOY_CLASS_DATA 2            /* data processing */
+#define GUTILAMBOY_CLASS_SPECIAL 3         /* special data instructions, and branch and exchange */
+#define GUTILAMBOY_CLASS_LITERAL 4         /* load from the literal pool */
+#define GUTILAMBOY_CLASS_LOAD_STORE 5      /* load or store of a single data item */
+#define GUTILAMBOY_CLASS_PC_ADDRESS 6      /* PC-relative address */
+#define GUTILAMBOY_CLASS_SP_ADDRESS 7      /* SP-relative address */
+#define GUTILAMBOY_CLASS_MISCELLANEOUS 8   /* miscellaneous 16-bit instructions */
+#define GUTILAMBOY_CLASS_STORE_MULTIPLE 9  /* store of several registers */
+#define GUTILAMBOY_CLASS_LOAD_MULTIPLE 10  /* load of several registers */
+#define GUTILAMBOY_CLASS_CONDITIONAL 11    /* conditional branch, and supervisor call */
+#define GUTILAMBOY_CLASS_BRANCH 12         /* unconditional branch */
+#define GUTILAMBOY_CLASS_32_BIT 13         /* 32-bit instructions */
 
 #define GUTILAMBOY_FINISH 0
 #define GUTILAMBOY_STOP 1

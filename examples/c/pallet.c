@@ -1,5 +1,5 @@
 /* Translates a rule, runs its image on lent memory, and prints how it ended and its words; then gets an update that is
- * refused, and goes on with the rule.
+ * refused, and goes on with the rule. Last it tells what code is that no translation gave.
  *
  *   rt staticlib gutilamboy
  *   cc -std=c99 -Wall -I include examples/c/pallet.c target/staticlib/libgutilamboy.a -o pallet && ./pallet
@@ -89,8 +89,30 @@ static int run(const struct gutilamboy_translation *rule, const char *what, cons
     return 0;
 }
 
+/* Code from elsewhere, by its first instruction: garbage, an Arm program, or what could be an image. */
+static void inspect(const char *what, const uint8_t *bytes, size_t length)
+{
+    struct gutilamboy_state state;
+    struct gutilamboy_stepped stepped;
+
+    memset(&state, 0, sizeof state);
+    gutilamboy_step(bytes, length, memory, MEMORY_WORDS, &state, &stepped);
+    switch (stepped.status) {
+    case GUTILAMBOY_FAULT_UNDEFINED:
+        printf("%s: garbage\n", what);
+        break;
+    case GUTILAMBOY_FAULT_UNSUPPORTED:
+        printf("%s: Arm code of class %u, not ours\n", what, (unsigned)stepped.number);
+        break;
+    default:
+        printf("%s: status %u\n", what, (unsigned)stepped.status);
+    }
+}
+
 int main(void)
 {
+    static const uint8_t erased[] = {0xFF, 0xFF, 0xFF, 0xFF};
+    static const uint8_t foreign[] = {0x10, 0xB5, 0x10, 0xBD}; /* PUSH {r4, lr}; POP {r4, pc} */
     static const uint32_t empty[] = {0, 7, 10, 20, 30, 40};
     static const uint32_t three[] = {3, 7, 10, 20, 30, 40};
     static const uint32_t five[] = {5, 7, 10, 20, 30, 40};
@@ -102,5 +124,10 @@ int main(void)
         return 1;
     if (update(&rule, "bad update", mistaken))
         return 1;
-    return run(&rule, "three boxes again", three, 6);
+    if (run(&rule, "three boxes again", three, 6))
+        return 1;
+    inspect("erased memory", erased, sizeof erased);
+    inspect("another program", foreign, sizeof foreign);
+    inspect("the rule", code, rule.code);
+    return 0;
 }

@@ -1,6 +1,7 @@
 //! A second assembler, disassembler and interpreter, written from document 01 and Arm's
 //! Armv6-M manual alone, by bit patterns and Rust's own 32-bit arithmetic.
 
+use crate::classes;
 use std::sync::OnceLock;
 
 #[derive(Clone, Copy, Debug, PartialEq, Eq)]
@@ -266,10 +267,8 @@ pub fn start(code: &[u8], memory: &[u32], d: u32, n: u32) -> (u32, State) {
     (status, s)
 }
 
-enum End {
-    Svc(u32),
-    Fault(u32),
-}
+/// Status and number of what ends a step or a run: an SVC or a fault.
+type End = (u32, u32);
 
 /// A load or store of a data word: its place in data, what it held and holds.
 #[derive(Clone, Copy, Debug, PartialEq, Eq)]
@@ -290,13 +289,13 @@ fn halfword(code: &[u8], a: u64) -> Option<u16> {
 
 fn load(code: &[u8], memory: &[u32], a: u32, touch: &mut Option<Touch>) -> Result<u32, End> {
     if a & 3 != 0 {
-        return Err(End::Fault(23));
+        return Err((23, 0));
     }
     let a = a as u64;
     if let (Some(low), Some(high)) = (halfword(code, a), halfword(code, a + 2)) {
         return Ok(low as u32 | (high as u32) << 16);
     }
-    let outside = || End::Fault(24);
+    let outside = || (24, 0);
     let word = a.checked_sub(DATA as u64).ok_or_else(outside)? as u32 / 4;
     let v = *memory.get(word as usize).ok_or_else(outside)?;
     *touch = Some(Touch { store: false, word, old: v, new: v });
@@ -305,9 +304,9 @@ fn load(code: &[u8], memory: &[u32], a: u32, touch: &mut Option<Touch>) -> Resul
 
 fn store(memory: &mut [u32], a: u32, v: u32, touch: &mut Option<Touch>) -> Result<(), End> {
     if a & 3 != 0 {
-        return Err(End::Fault(23));
+        return Err((23, 0));
     }
-    let outside = || End::Fault(24);
+    let outside = || (24, 0);
     let word = a.checked_sub(DATA).ok_or_else(outside)? / 4;
     let old = std::mem::replace(memory.get_mut(word as usize).ok_or_else(outside)?, v);
     *touch = Some(Touch { store: true, word, old, new: v });
@@ -315,7 +314,7 @@ fn store(memory: &mut [u32], a: u32, v: u32, touch: &mut Option<Touch>) -> Resul
 }
 
 fn fetch(code: &[u8], pc: u32) -> Result<Instr, End> {
-    let outside = || End::Fault(21);
+    let outside = || (21, 0);
     if pc & 1 == 1 {
         return Err(outside());
     }
@@ -324,7 +323,7 @@ fn fetch(code: &[u8], pc: u32) -> Result<Instr, End> {
     if h >> 11 == 0b11110 {
         next = halfword(code, pc as u64 + 2).ok_or_else(outside)?;
     }
-    disassemble(h, next).ok_or(End::Fault(22))
+    disassemble(h, next).ok_or_else(|| classes::fault(h, next))
 }
 
 /// The manual's AddWithCarry: the result, carry out and overflow.
@@ -421,7 +420,7 @@ fn execute(s: &mut State, code: &[u8], memory: &mut [u32], touch: &mut Option<To
         Stri => store(memory, words(r[b], i.a), r[c], touch)?,
         Incsp => s.sp = words(s.sp, i.a),
         Decsp => s.sp = s.sp.wrapping_sub(4 * i.a as u32),
-        Svc => return Err(End::Svc(i.a as u32)),
+        Svc => return Err((1, i.a as u32)),
         Bl => s.lr = s.pc.wrapping_add(5),
         _ => {}
     }
@@ -450,8 +449,7 @@ pub fn watched_step(s: &mut State, code: &[u8], memory: &mut [u32], touch: &mut 
             *s = after;
             (0, 0)
         }
-        Err(End::Svc(n)) => (1, n),
-        Err(End::Fault(f)) => (f, 0),
+        Err(end) => end,
     }
 }
 
@@ -465,7 +463,7 @@ pub fn run(s: &mut State, code: &[u8], memory: &mut [u32], limit: u64) -> (u32, 
         match step(s, code, memory) {
             (0, _) => {}
             (1, n) => return (1, n, done + 1),
-            (f, _) => return (f, 0, done),
+            (f, n) => return (f, n, done),
         }
     }
     (0, 0, limit)

@@ -1,7 +1,9 @@
 //! What the comparisons and the measurements share: the proved calls through the C boundary, and a second
-//! assembler, interpreter and code generator in Rust. The second front end and the source's run are `reference`.
+//! assembler, interpreter, classification of halfwords and code generator in Rust. The second front end and the
+//! source's run are `reference`.
 
 pub mod arm;
+pub mod classes;
 pub mod image;
 pub mod plain;
 pub mod proved;

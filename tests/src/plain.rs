@@ -3,6 +3,7 @@
 //! halfword that is not in the list, a second half, an address that is no multiple of 4, a word outside memory.
 
 use crate::arm::{refusal, Flags, State, DATA};
+use crate::classes;
 
 /// N and Z in one number, so that a result sets both by one extension of its sign: N if it is negative, Z if its low
 /// word is 0. Both at once, which no result gives, is -2^63.
@@ -67,8 +68,25 @@ fn distance(halfword: u32, bits: u32) -> u32 {
     (((halfword << (32 - bits)) as i32) >> (31 - bits)) as u32
 }
 
+/// The fault where pc stands at halfwords that are not in the list.
+#[cold]
+fn strange(code: &[u8], pc: u32) -> (u32, u32) {
+    let half = |at: usize| code.get(at..at + 2).map_or(0, |pair| u16::from_le_bytes([pair[0], pair[1]]));
+    classes::fault(half(pc as usize), half(pc as usize + 2))
+}
+
 /// Status, number and count of a run: as `gutilamboy_run`.
 pub fn run(state: &mut State, code: &[u8], memory: &mut [u32], limit: u64) -> (u32, u32, u64) {
+    let (mut status, mut number, count) = listed(state, code, memory, limit);
+    if status == 22 {
+        (status, number) = strange(code, state.pc);
+    }
+    (status, number, count)
+}
+
+/// The same with 22 for all that is not in the list. Apart, as the loop is slower with the look at those in it.
+#[inline(never)]
+fn listed(state: &mut State, code: &[u8], memory: &mut [u32], limit: u64) -> (u32, u32, u64) {
     let refused = refusal(code, memory);
     if refused != 0 {
         return (refused, 0, 0);

@@ -43,7 +43,7 @@ module _ (c : List ℕ) (pc : ℕ) (i : Instr) (ok : encodeOf i .status ≡ 0) (
 
   pub once-at : (w : List ℕ) (m : Machine) → m .pc ≡ pc → onceOf c w m ≡ executeOf c w m i
   unfolding onceOf
-  once-at w m e = ap (λ (a : ℕ). fetched c w m (fetchOf c a)) e ∙ ap (fetched c w m) fetch-is ∙ ap (decoded c w m) (decode-encode i ok)
+  once-at w m e = ap (λ (a : ℕ). fetched c w m (fetchOf c a)) e ∙ ap (fetched c w m) fetch-is ∙ ap (decoded c w m (encodeOf i .first) (encodeOf i .second)) (decode-encode i ok)
 
 -- ── by the bytes that the code was put together from ──
 

@@ -15,12 +15,15 @@ use Rattle.arm_word.specs.Access.{Access, stored}
 use Rattle.arm_encoding.specs.Encoding.{decodeOf}
 use Rattle.arm_encoding.specs.declared.Decoded.{Decoded}
 use Rattle.arm_encoding.specs.declared.Decoded.the-variants.{Known, Unknown}
+use Rattle.arm_classes.specs.Classes.{classifyOf}
+use Rattle.arm_classes.specs.declared.Strange.{Strange}
+use Rattle.arm_classes.specs.declared.Strange.the-variants.{Undefined, Unsupported}
 use Rattle.arm_state.specs.Effects.{after, Effect, done, fault, stops}
 use Rattle.arm_state.specs.Outcome.{Outcome, completed, loaded-word, stored-word, ended-by, faulted, execute-outcome}
 use Rattle.arm_state.specs.declared.Machine.{Machine}
 use Rattle.arm_machine.specs.declared.Fetched.{Fetched}
 use Rattle.arm_machine.specs.declared.Fetched.the-variants.{Halves, Outside}
-use Rattle.arm_machine.specs.Step.{fetchOf, decoded, fetched, onceOf, refusalOf, stepOf, code-limit, memory-limit}
+use Rattle.arm_machine.specs.Step.{fetchOf, strange, decoded, fetched, onceOf, refusalOf, stepOf, code-limit, memory-limit}
 
 -- ── a step has one of the outcomes of an instruction ──
 
@@ -28,12 +31,16 @@ pub once-outcome : (c w : List ℕ) (m : Machine) → Outcome w m (onceOf c w m)
 unfolding onceOf
 once-outcome c w m = got (fetchOf c (m .pc))
   where
-    known : (d : Decoded) → Outcome w m (decoded c w m d)
-    known (Known i) = execute-outcome c w m i
-    known Unknown = faulted 22 0 (lit< tt)
+    outside : (s : Strange) → Outcome w m (stops w (strange m s))
+    outside Undefined = faulted 22 0 (lit< tt)
+    outside (Unsupported class) = faulted 26 class (lit< tt)
+
+    known : (h k : ℕ) (d : Decoded) → Outcome w m (decoded c w m h k d)
+    known h k (Known i) = execute-outcome c w m i
+    known h k Unknown = outside (classifyOf h k)
 
     got : (f : Fetched) → Outcome w m (fetched c w m f)
-    got (Halves h k) = known (decodeOf h k)
+    got (Halves h k) = known h k (decodeOf h k)
     got Outside = faulted 21 0 (lit< tt)
 
 -- a refusal is 0, 31 or 32

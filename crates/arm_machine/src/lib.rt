@@ -2,11 +2,13 @@
 ghost use mathlib.Core.Path.{_≡_};
 ghost use Prim.Native.Nat.{_+_, _<_, _≤_};
 ghost use lib.ListN.{length, getD};
+ghost use Rattle.arm_classes.specs.Classes as classes;
 ghost use Rattle.arm_state.specs.MachineCore as cores;
 ghost use Rattle.arm_state.specs.Effects as exec_spec;
 ghost use Rattle.arm_machine.specs.Start as starts;
 ghost use Rattle.arm_machine.specs.Step as steps;
 ghost use Rattle.arm_machine.specs.MachineRun as runs;
+use arm_classes::Strange;
 use arm_encoding::Decoded;
 use arm_state::Core;
 use arm_state::Machine;
@@ -79,6 +81,16 @@ fn fetch(code: &[u8], pc: u32) -> Fetched
     with_second(code, i, half(code, i))
 }
 
+// Halfwords that are no instruction of the list: 22, or 26 and their class.
+fn strange(core: Core, h: u16, k: u16) -> Turn
+    ensures { λ r. ⌜ cores.stepped r ≡ steps.strange (cores.whole core) (classes.classifyOf h k) ⌝ }
+{
+    let Strange::Unsupported(class) = arm_classes::classify(h, k) else {
+        return core.fault(22);
+    };
+    core.unsupported(class)
+}
+
 // Fetch, decode, execute. The loop of `run` is its only caller, and it is decode's and execute's: the compiler builds such a
 // function into its caller, and the state stays where it is from one instruction to the next.
 fn once(core: Core, code: &[u8], memory: &mut [u32]) -> Turn
@@ -88,7 +100,7 @@ fn once(core: Core, code: &[u8], memory: &mut [u32]) -> Turn
         return core.fault(21);
     };
     let Decoded::Known(i) = arm_encoding::decode(h, k) else {
-        return core.fault(22);
+        return strange(core, h, k);
     };
     arm_execute::execute(core, i, code, memory)
 }

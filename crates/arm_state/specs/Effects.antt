@@ -45,6 +45,10 @@ ended m u = record { machine = m; status = 1; number = u }
 abbrev pub fault : Machine → ℕ → Stepped
 fault m f = record { machine = m; status = f; number = 0 }
 
+-- request 2026-05: an instruction that Armv6-M defines and the list doesn't have, 26 "with the class as a number": the state is the old one
+abbrev pub unsupported : Machine → ℕ → Stepped
+unsupported m class = record { machine = m; status = 26; number = class }
+
 -- completed, with no data access
 abbrev pub goes : List ℕ → Machine → Effect
 goes w m = record { after = after (done m) w; access = [] }

@@ -37,7 +37,8 @@ pub struct Machine {
     pub flags: Flags,
 }
 
-// What a step did: status 0 one instruction, 1 an SVC, whose number is `number`, 21 to 24 a fault, 31 and 32 a refusal.
+// What a step did: status 0 one instruction, 1 an SVC, whose number is `number`, 21 to 24 a fault, 26 one whose class is
+// `number`, 31 and 32 a refusal.
 pub struct Stepped {
     pub machine: Machine,
     pub status: u32,
@@ -403,6 +404,17 @@ impl Core {
             core: self,
             status: f,
             number: 0,
+        }
+    }
+
+    // A fault by an instruction that Armv6-M defines and the list doesn't have, with its class.
+    pub fn unsupported(self, class: u32) -> Turn
+        ensures { λ r. ⌜ core.stepped r ≡ spec.unsupported (core.whole self) class ⌝ }
+    {
+        Turn {
+            core: self,
+            status: 26,
+            number: class,
         }
     }
 

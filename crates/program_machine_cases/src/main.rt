@@ -151,8 +151,37 @@ fn flags() {
     case(b"1 SHL 33:", &by_33, 8, 3);
 }
 
+// A run that comes to two halfwords behind a MOVI r0,5.
+fn meets(name: &[u8], h: u16, k: u16) {
+    let code = code_of(0x2005, h, k, 0xDF00);
+    case(name, &code, 8, 10);
+}
+
+// Outside the list: good Armv6-M, by class, then what is undefined or unpredictable.
+fn strange() {
+    meets(b"ADDS:", 0x1C00, 0);
+    meets(b"ASRS:", 0x4100, 0);
+    meets(b"MOV:", 0x46C0, 0);
+    meets(b"STRB:", 0x7000, 0);
+    meets(b"PUSH:", 0xB401, 0);
+    meets(b"unallocated hint:", 0xBF50, 0);
+    meets(b"STM:", 0xC001, 0);
+    meets(b"LDM:", 0xC801, 0);
+    meets(b"BCS:", 0xD200, 0);
+    meets(b"MRS:", 0xF3EF, 0x8000);
+    meets(b"far BL:", 0xF000, 0xD000);
+    meets(b"UDF:", 0xDE00, 0);
+    meets(b"CBZ:", 0xB100, 0);
+    meets(b"PUSH of nothing:", 0xB400, 0);
+    meets(b"ADD pc,pc:", 0x44FF, 0);
+    meets(b"MRS into sp:", 0xF3EF, 0x8D00);
+    meets(b"B.W:", 0xF000, 0x9000);
+    meets(b"erased:", 0xFFFF, 0xFFFF);
+}
+
 fn main() {
     encodings();
     runs();
     flags();
+    strange();
 }

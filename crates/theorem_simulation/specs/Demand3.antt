@@ -131,7 +131,7 @@ pub record Ended (p : Program) (memory words : List ℕ) (number : ℕ) : Type 0
 
 -- what holds of each instruction
 pub record Orderly (p : Program) (memory : List ℕ) (e : Effect) : Type 0 where
-  -- it completes (0) or is an SVC (1): no fault, which would be 21 to 24
+  -- it completes (0) or is an SVC (1): no fault, which would be 21 to 24 or 26
   pub no-fault : e .after .state .status < 2
   pub kept : Kept p memory (e .after .words) (e .after .state .machine)
   -- what it loads or stores in data lies in the declared or the stack words, by the access's own address

@@ -399,11 +399,12 @@ fn functions_with_a_requires() {
 // ── links ──
 
 /// The pages for readers.
-const PAGES: [&str; 11] = [
+const PAGES: [&str; 12] = [
     "README.md",
     "CHANGELOG.md",
     "CONTRIBUTING.md",
     "docs/BENCHMARKS.md",
+    "docs/CLASSES.md",
     "docs/DECISIONS.md",
     "docs/DEMANDS.md",
     "docs/LANGUAGE.md",

@@ -9,7 +9,7 @@ use std::fmt::Write;
 use std::panic::catch_unwind;
 use std::path::Path;
 use tests::arm::{self, assemble, pattern, Instr, Layout, Op, State, OPS};
-use tests::{needed_words, second, CODE_BYTES, TABLE_WORDS};
+use tests::{classes, needed_words, second, CODE_BYTES, TABLE_WORDS};
 
 /// Numbers by what they are the number of.
 type Numbers = BTreeMap<String, u64>;
@@ -132,7 +132,7 @@ fn numbers_of(folder: &Path) -> [Numbers; 2] {
 fn constants() -> Vec<(&'static str, u64)> {
     let limits = [
         // the interface's own number, in no document: who changes the header changes it here
-        ("VERSION_MAJOR", 3),
+        ("VERSION_MAJOR", 4),
         ("VERSION_MINOR", 0),
         ("SOURCE_BYTES", tokens::SOURCE_LIMIT),
         ("TOKENS", tokens::TOKEN_LIMIT),
@@ -147,7 +147,7 @@ fn constants() -> Vec<(&'static str, u64)> {
         ("OP_NONE", OPS.len()),
     ];
     let limits = limits.map(|(name, number)| (name, number as u64));
-    [limits.to_vec(), translation_statuses(), machine_statuses(), ends()].concat()
+    [limits.to_vec(), translation_statuses(), machine_statuses(), class_numbers(), ends()].concat()
 }
 
 /// What the second translation answers to a source for each status.
@@ -193,7 +193,9 @@ fn machine_statuses() -> Vec<(&'static str, u64)> {
         ("DONE", step(0x2005, 0)),
         ("SVC", step(0xdf07, 0)),
         ("FAULT_FETCH", step(0x2005, 1)),
-        ("FAULT_INSTRUCTION", step(0xde00, 0)),
+        // UDF, and ADDS r0,r0,0
+        ("FAULT_UNDEFINED", step(0xde00, 0)),
+        ("FAULT_UNSUPPORTED", step(0x1c00, 0)),
         // LDRI r0,r0,0 and STRSPI r0,0
         ("FAULT_ALIGNMENT", step(0x6800, 0)),
         ("FAULT_ADDRESS", step(0x9000, 0)),
@@ -203,6 +205,27 @@ fn machine_statuses() -> Vec<(&'static str, u64)> {
         ("BAD_NUMBERS", start(0, 8, 8_193, 0)),
         // "Encoding a field out of range: 35"
         ("OUT_OF_RANGE", 35),
+    ]
+}
+
+/// The class of an instruction of each line, in the list or not.
+fn class_numbers() -> Vec<(&'static str, u64)> {
+    let long = |first, second| classes::strange(first, second).expect("an instruction") as u64;
+    let short = |halfword| long(halfword, 0);
+    vec![
+        ("CLASS_IMMEDIATE", short(0x1c00)),      // ADDS r0,r0,0
+        ("CLASS_DATA", short(0x4100)),           // ASRS r0,r0
+        ("CLASS_SPECIAL", short(0x4770)),        // BX lr
+        ("CLASS_LITERAL", short(0x4800)),        // LDR r0,[pc]
+        ("CLASS_LOAD_STORE", short(0x7000)),     // STRB r0,[r0]
+        ("CLASS_PC_ADDRESS", short(0xa000)),     // ADR r0
+        ("CLASS_SP_ADDRESS", short(0xa800)),     // ADD r0,sp,0
+        ("CLASS_MISCELLANEOUS", short(0xb500)),  // PUSH {lr}
+        ("CLASS_STORE_MULTIPLE", short(0xc001)), // STM r0!,{r0}
+        ("CLASS_LOAD_MULTIPLE", short(0xc801)),  // LDM r0,{r0}
+        ("CLASS_CONDITIONAL", short(0xd200)),    // BCS
+        ("CLASS_BRANCH", short(0xe000)),         // B
+        ("CLASS_32_BIT", long(0xf3bf, 0x8f4f)),  // DSB
     ]
 }
 
@@ -353,6 +376,10 @@ fn wrong_headers_are_noticed() {
         ("SHR 16 ", "SHR 15 "),
         ("/* r l d */", "/* l r d */"),
         ("NOT_DECLARED 8 ", "NOT_DECLARED 9 "),
+        ("FAULT_UNDEFINED 22", "FAULT_INSTRUCTION 22"),
+        ("FAULT_UNSUPPORTED 26", "FAULT_UNSUPPORTED 25"),
+        ("CLASS_LOAD_STORE 5", "CLASS_LOAD_STORE 6"),
+        ("CLASS_32_BIT 13", "CLASS_32_BIT 15"),
         ("#define GUTILAMBOY_STOP 1\n", ""),
         ("#define GUTILAMBOY_STOP 1\n", "#define GUTILAMBOY_STOP 1\n#define GUTILAMBOY_NEW 1\n"),
         ("uint32_t sp;\n    uint32_t lr;", "uint32_t lr;\n    uint32_t sp;"),

@@ -1,5 +1,6 @@
 //! The proved machine against the second one.
 
+use crate::classes::MET;
 use crate::{by_status, print};
 use reference::generate::Random;
 use tests::arm::{self, assemble, disassemble, pattern, Flags, Instr, Layout, Op, State, OPS};
@@ -223,13 +224,23 @@ struct Seen {
     runs: [u64; 36],
     starts: [u64; 36],
     run_instructions: u64,
+    /// steps and runs that end at an instruction outside the list, by class
+    classes: [u64; 14],
     /// completed steps, by instruction and combination of flags before it
     kinds: [[u64; 16]; 34],
 }
 
 impl Seen {
     fn none() -> Seen {
-        Seen { steps: [0; 36], runs: [0; 36], starts: [0; 36], run_instructions: 0, kinds: [[0; 16]; 34] }
+        let [steps, runs, starts] = [[0; 36]; 3];
+        Seen { steps, runs, starts, run_instructions: 0, classes: [0; 14], kinds: [[0; 16]; 34] }
+    }
+
+    /// Of 26, `number` is the class.
+    fn class(&mut self, status: u32, number: u32) {
+        if status == 26 {
+            self.classes[number as usize] += 1;
+        }
     }
 }
 
@@ -243,6 +254,7 @@ fn one_step(seen: &mut Seen, s: &State, code: &[u8], memory: &[u32]) {
         same("kept", s, (mine, my_memory), (s.clone(), memory.to_vec()));
     }
     seen.steps[want.0 as usize] += 1;
+    seen.class(want.0, want.1);
     if want.0 < 2 {
         let i = at(code, s.pc).unwrap();
         seen.kinds[OPS.iter().position(|&op| op == i.op).unwrap()][(s.flags.apsr() >> 28) as usize] += 1;
@@ -262,6 +274,7 @@ fn one_run(seen: &mut Seen, s: &State, code: &[u8], memory: &[u32], limit: u64) 
     same("plain run", (s, limit), (measured, plain, plain_memory), (want, mine.clone(), my_memory.clone()));
     same("run", (s, limit), (got, theirs, their_memory), (want, mine, my_memory));
     seen.runs[want.0 as usize] += 1;
+    seen.class(want.0, want.1);
     seen.run_instructions += want.2;
 }
 
@@ -382,4 +395,6 @@ fn starts_steps_and_runs() {
     print(&format!("step: fewest completed of one instruction from one combination of flags {fewest}"));
     let (runs, done) = (total(&seen.runs), seen.run_instructions);
     print(&format!("run: {runs} calls, {done} instructions (by status {})", by_status(&seen.runs)));
+    assert!(MET.iter().all(|&class| seen.classes[class] > 0), "26 of every class");
+    print(&format!("step and run: 26 by class {}", by_status(&seen.classes)));
 }

@@ -6,6 +6,7 @@ use std::path::{Path, PathBuf};
 mod boundary;
 mod calls;
 mod cases;
+mod classes;
 mod documents;
 mod ebnf;
 mod failures;

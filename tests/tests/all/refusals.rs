@@ -1,10 +1,12 @@
 //! docs/REFUSALS.md says what is so: each example is tried with the proved calls, and each number has the header's name.
 
+use crate::classes::MET;
 use crate::documents::{no_complaints, quoted, read};
-use crate::pages::{defines, number, refused_as, run, translate, translate_into};
+use crate::pages::{code, defines, number, refused_as, rows, run, translate, translate_into};
 use crate::print;
 use std::collections::{BTreeMap, BTreeSet};
 use tests::arm::State;
+use tests::classes::LONG;
 use tests::{proved, CODE_BYTES, TABLE_WORDS};
 
 /// A source of parts: `text`, or so many times `text`, joined by "then".
@@ -46,56 +48,90 @@ fn source_example(told: &str) -> Result<(), String> {
     (end == answer).then_some(()).ok_or_else(|| format!("it ends by {end}"))
 }
 
-/// `step, code 2005, pc = 1`, `start, data = 1, depth = 2, memory of 12 words`, `encode, op = 5, ...`: the answer.
-fn machine_status(call: &str) -> Option<u32> {
-    let mut parts = call.split(", ");
-    let called = parts.next()?;
-    let mut fields = BTreeMap::new();
-    let (mut code, mut memory) = (Vec::new(), Vec::new());
-    for part in parts {
-        if let Some((name, value)) = part.split_once(" = ") {
-            fields.insert(name, u32::try_from(number(value)?).ok()?);
-        } else if let Some(length) = part.strip_prefix("code of ") {
-            code = vec![0; number(length.strip_suffix(" bytes")?)? as usize];
-        } else if let Some(length) = part.strip_prefix("memory of ") {
-            memory = vec![0; number(length.strip_suffix(" words")?)? as usize];
-        } else {
-            for half in part.strip_prefix("code ")?.split(' ') {
-                code.extend_from_slice(&u16::from_str_radix(half, 16).ok()?.to_le_bytes());
+/// A machine call: its name, its fields, and what it is lent.
+struct Call<'c> {
+    name: &'c str,
+    fields: BTreeMap<&'c str, u32>,
+    code: Vec<u8>,
+    memory: Vec<u32>,
+}
+
+impl<'c> Call<'c> {
+    /// `step, code 2005, pc = 1`, `start, data = 1, depth = 2, memory of 12 words`, `encode, op = 5, ...`.
+    fn read(told: &'c str) -> Option<Call<'c>> {
+        let mut parts = told.split(", ");
+        let name = parts.next()?;
+        let mut call = Call { name, fields: BTreeMap::new(), code: Vec::new(), memory: Vec::new() };
+        for part in parts {
+            if let Some((name, value)) = part.split_once(" = ") {
+                call.fields.insert(name, u32::try_from(number(value)?).ok()?);
+            } else if let Some(length) = part.strip_prefix("code of ") {
+                call.code = vec![0; number(length.strip_suffix(" bytes")?)? as usize];
+            } else if let Some(length) = part.strip_prefix("memory of ") {
+                call.memory = vec![0; number(length.strip_suffix(" words")?)? as usize];
+            } else {
+                for half in part.strip_prefix("code ")?.split(' ') {
+                    call.code.extend_from_slice(&u16::from_str_radix(half, 16).ok()?.to_le_bytes());
+                }
             }
         }
+        Some(call)
     }
-    let mut field = |name: &str| fields.remove(name);
-    let status = match called {
-        "step" => {
-            let mut state = State { pc: field("pc").unwrap_or(0), ..State::default() };
-            (0..8).for_each(|r| state.r[r] = field(&format!("r{r}")).unwrap_or(0));
-            let before = (state.clone(), memory.clone());
-            let (status, _) = proved::step(&mut state, &code, &mut memory);
-            if status != 0 {
-                assert_eq!(before, (state, memory), "{call} changed something");
-            }
-            status
+
+    fn field(&mut self, name: &str) -> Option<u32> {
+        self.fields.remove(name)
+    }
+
+    /// Status and number.
+    fn step(&mut self) -> (u32, u32) {
+        let mut state = State { pc: self.field("pc").unwrap_or(0), ..State::default() };
+        (0..8).for_each(|r| state.r[r] = self.field(&format!("r{r}")).unwrap_or(0));
+        let before = (state.clone(), self.memory.clone());
+        let answer = proved::step(&mut state, &self.code, &mut self.memory);
+        if answer.0 != 0 {
+            assert_eq!(before, (state, self.memory.clone()), "{answer:?} changed something");
         }
-        "start" => {
-            let (status, state) = proved::start(&code, &memory, field("data")?, field("depth")?);
-            if status != 0 {
-                assert_eq!(state, State::default(), "{call}");
-            }
-            status
+        answer
+    }
+
+    fn start(&mut self) -> Option<u32> {
+        let (data, depth) = (self.field("data")?, self.field("depth")?);
+        let (status, state) = proved::start(&self.code, &self.memory, data, depth);
+        if status != 0 {
+            assert_eq!(state, State::default(), "{status}");
         }
-        "encode" => {
-            let mut byte = |name: &str| field(name).and_then(|n| u8::try_from(n).ok());
-            let [op, a, b, c] = [byte("op")?, byte("a")?, byte("b")?, byte("c")?];
-            let [status, rest @ ..] = proved::encode(op, a, b, c, field("k")? as i32);
-            if status != 0 {
-                assert_eq!(rest, [0; 3], "{call}");
-            }
-            status
+        Some(status)
+    }
+
+    fn encode(&mut self) -> Option<u32> {
+        let mut byte = |name: &str| self.field(name).and_then(|n| u8::try_from(n).ok());
+        let [op, a, b, c] = [byte("op")?, byte("a")?, byte("b")?, byte("c")?];
+        let [status, rest @ ..] = proved::encode(op, a, b, c, self.field("k")? as i32);
+        if status != 0 {
+            assert_eq!(rest, [0; 3], "{status}");
         }
-        _ => return None,
-    };
-    fields.is_empty().then_some(status)
+        Some(status)
+    }
+
+    /// Status and number, which is 0 but of a step; none if there is a field that the call doesn't have.
+    fn answer(&mut self) -> Option<(u32, u32)> {
+        let answer = match self.name {
+            "step" => self.step(),
+            "start" => (self.start()?, 0),
+            "encode" => (self.encode()?, 0),
+            _ => return None,
+        };
+        self.fields.is_empty().then_some(answer)
+    }
+}
+
+/// A status, of 26 with the class, which is its number: `26, class 5`. The number of all others is 0.
+fn told_answer(told: &str) -> Option<(u32, u32)> {
+    match told.split_once(", class ") {
+        Some((status @ "26", class)) => status.parse().ok().zip(class.parse().ok()),
+        None if told != "26" => Some((told.parse().ok()?, 0)),
+        _ => None,
+    }
 }
 
 fn example(told: &str) -> Result<(), String> {
@@ -103,46 +139,76 @@ fn example(told: &str) -> Result<(), String> {
         return source_example(told);
     }
     let (call, answer) = told.rsplit_once(": ").ok_or("no answer")?;
-    let status = machine_status(call).ok_or("not understood")?;
-    (answer.parse() == Ok(status)).then_some(()).ok_or_else(|| format!("it answers {status}"))
+    let told = told_answer(answer).ok_or("no answer")?;
+    let got = Call::read(call).and_then(|mut call| call.answer()).ok_or("not understood")?;
+    (got == told).then_some(()).ok_or_else(|| format!("it answers {got:?}"))
 }
 
-/// The numbers that need a section: translation 1 to 14, SVC 0 to 2, faults 21 to 24, refusals 31 to 35.
+/// The numbers that need a section: translation 1 to 14, SVC 0 to 2, faults 21 to 24 and 26, refusals 31 to 35.
 fn wanted() -> BTreeSet<String> {
-    let numbers = (1..=14).chain(21..=24).chain(31..=35).map(|n: u32| n.to_string());
+    let numbers = (1..=14).chain(21..=24).chain([26]).chain(31..=35).map(|n: u32| n.to_string());
     numbers.chain((0..3).map(|n| format!("SVC {n}"))).collect()
+}
+
+/// Whether an example's answer is of the status that its section is about: alone, with a place, or with a class.
+fn is_of(value: &str, told: &str) -> bool {
+    let answer = told.rsplit_once("`: ").or(told.rsplit_once(": ")).map_or("", |(_, answer)| answer);
+    let rest = answer.strip_prefix(value);
+    rest.is_some_and(|rest| rest.is_empty() || rest.starts_with(" at ") || rest.starts_with(", class "))
+}
+
+/// A part of the page: its number, what is wrong with it, and how many examples it has.
+fn section<'p>(part: &'p str, header: &BTreeMap<String, u32>) -> (&'p str, Vec<String>, usize) {
+    let mut wrong = Vec::new();
+    let heading = part.lines().next().expect("a heading");
+    let (told, name) = heading.split('`').next().zip(heading.split('`').nth(1)).expect("a name");
+    let told = told.trim();
+    let value = told.strip_prefix("SVC ").unwrap_or(told);
+    if header.get(name).map(u32::to_string).as_deref() != Some(value) {
+        wrong.push(format!("{name} is not {told}"));
+    }
+    let text = part.split("\n# ").next().expect("a part");
+    let examples: Vec<&str> = text.lines().filter_map(|line| line.strip_prefix("- ")).collect();
+    // of an SVC the answer is a word
+    if !examples.iter().any(|example| told != value || is_of(value, example)) {
+        wrong.push(format!("{heading}: no example"));
+    }
+    for told in &examples {
+        wrong.extend(example(told).err().map(|complaint| format!("{told}: {complaint}")));
+    }
+    (told, wrong, examples.len())
+}
+
+/// What is wrong with the table of classes: not all in order, a name with another number than the header's, or "none"
+/// at a class that an answer can have, or not at another.
+fn wrong_classes(page: &str, header: &BTreeMap<String, u32>) -> Vec<String> {
+    let table = rows(page, "class");
+    let classes: Vec<Option<u32>> = table.iter().map(|row| row[0].parse().ok()).collect();
+    let wrong = table.iter().zip(&classes).filter(|(row, class)| {
+        let named = row.get(1).and_then(|cell| code(cell)).and_then(|name| header.get(name));
+        let none = row.get(2).is_some_and(|cell| cell.starts_with("none"));
+        named != class.as_ref() || none == class.is_some_and(|class| MET.contains(&(class as usize)))
+    });
+    let mut wrong: Vec<String> = wrong.map(|(row, _)| format!("wrong class: {row:?}")).collect();
+    if !classes.iter().copied().eq((1..=LONG).map(Some)) {
+        wrong.push(format!("classes {classes:?}"));
+    }
+    wrong
 }
 
 /// What is wrong with a page, and how many examples it has.
 fn complaints(page: &str) -> (Vec<String>, usize) {
     let header = defines();
-    let mut wrong = Vec::new();
+    let mut wrong = wrong_classes(page, &header);
     let mut seen = BTreeSet::new();
     let mut count = 0;
     for part in page.split("\n## ").skip(1) {
-        let heading = part.lines().next().expect("a heading");
-        let (told, name) = heading.split('`').next().zip(heading.split('`').nth(1)).expect("a name");
-        let told = told.trim();
+        let (told, complaints, examples) = section(part, &header);
+        wrong.extend(complaints);
+        count += examples;
         if !seen.insert(told.to_string()) {
             wrong.push(format!("{told} stands twice"));
         }
-        let value = told.strip_prefix("SVC ").unwrap_or(told);
-        if header.get(name).map(u32::to_string).as_deref() != Some(value) {
-            wrong.push(format!("{name} is not {told}"));
-        }
-        let section = part.split("\n# ").next().expect("a part");
-        let examples: Vec<&str> = section.lines().filter_map(|line| line.strip_prefix("- ")).collect();
-        let own = |told: &str| {
-            let answer = told.rsplit_once("`: ").or(told.rsplit_once(": ")).map_or("", |(_, answer)| answer);
-            answer == value || answer.starts_with(&format!("{value} at ")) || heading.starts_with("SVC")
-        };
-        if !examples.iter().any(|told| own(told)) {
-            wrong.push(format!("{heading}: no example"));
-        }
-        for told in &examples {
-            wrong.extend(example(told).err().map(|complaint| format!("{told}: {complaint}")));
-        }
-        count += examples.len();
     }
     wrong.extend(
         wanted().symmetric_difference(&seen).map(|number| format!("{number}: no section, or no number")),
@@ -197,6 +263,17 @@ fn wrong_pages_are_noticed() {
         ("## 9 `", "## 19 `"),
         ("- `var a; var a; skip`: 9 at 11, `a`\n", ""),
         ("encode, op = 5, a = 8", "encode, op = 5, a = 7"),
+        ("code DE00: 22", "code DE00: 26, class 11"),
+        ("code 1C00: 26, class 1", "code 1C00: 26, class 2"),
+        ("code 1C00: 26, class 1", "code 1C00: 26"),
+        ("code 1C00: 26, class 1", "code 1C00: 22"),
+        ("| 2 | `GUTILAMBOY_CLASS_DATA` |", "| 2 | `GUTILAMBOY_CLASS_SPECIAL` |"),
+        ("| 9 | `GUTILAMBOY_CLASS_STORE_MULTIPLE` | STM |\n", ""),
+        (
+            "| 9 | `GUTILAMBOY_CLASS_STORE_MULTIPLE` | STM |",
+            "| 9 | `GUTILAMBOY_CLASS_STORE_MULTIPLE` | none |",
+        ),
+        ("| 12 | `GUTILAMBOY_CLASS_BRANCH` | none", "| 12 | `GUTILAMBOY_CLASS_BRANCH` | some"),
     ] {
         assert!(page.contains(old), "{old}");
         assert!(!complaints(&page.replacen(old, new, 1)).0.is_empty(), "{new} for {old}");
