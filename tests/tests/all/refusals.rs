@@ -179,8 +179,8 @@ fn section<'p>(part: &'p str, header: &BTreeMap<String, u32>) -> (&'p str, Vec<S
     (told, wrong, examples.len())
 }
 
-/// What is wrong with the table of classes: not all in order, a name with another number than the header's, or "none"
-/// at a class that an answer can have, or not at another.
+/// What is wrong with the table of classes: not all in order, a name with another number than the header's, "none" at a
+/// class that an answer can have, or not at another; another line than docs/CLASSES.md has.
 fn wrong_classes(page: &str, header: &BTreeMap<String, u32>) -> Vec<String> {
     let table = rows(page, "class");
     let classes: Vec<Option<u32>> = table.iter().map(|row| row[0].parse().ok()).collect();
@@ -190,6 +190,12 @@ fn wrong_classes(page: &str, header: &BTreeMap<String, u32>) -> Vec<String> {
         named != class.as_ref() || none == class.is_some_and(|class| MET.contains(&(class as usize)))
     });
     let mut wrong: Vec<String> = wrong.map(|(row, _)| format!("wrong class: {row:?}")).collect();
+    let lines = |page: &str, column: usize| -> Vec<Option<String>> {
+        rows(page, "class").iter().map(|row| row.get(column).cloned()).collect()
+    };
+    if lines(page, 3) != lines(&read("docs/CLASSES.md"), 4) {
+        wrong.push("other lines than docs/CLASSES.md has".to_string());
+    }
     if !classes.iter().copied().eq((1..=LONG).map(Some)) {
         wrong.push(format!("classes {classes:?}"));
     }
@@ -268,7 +274,8 @@ fn wrong_pages_are_noticed() {
         ("code 1C00: 26, class 1", "code 1C00: 26"),
         ("code 1C00: 26, class 1", "code 1C00: 22"),
         ("| 2 | `GUTILAMBOY_CLASS_DATA` |", "| 2 | `GUTILAMBOY_CLASS_SPECIAL` |"),
-        ("| 9 | `GUTILAMBOY_CLASS_STORE_MULTIPLE` | STM |\n", ""),
+        ("| 9 | `GUTILAMBOY_CLASS_STORE_MULTIPLE` | STM | store of several registers |\n", ""),
+        ("| STM | store of several registers |", "| STM | load of several registers |"),
         (
             "| 9 | `GUTILAMBOY_CLASS_STORE_MULTIPLE` | STM |",
             "| 9 | `GUTILAMBOY_CLASS_STORE_MULTIPLE` | none |",
