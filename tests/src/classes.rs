@@ -273,7 +273,7 @@ fn both(first: u16, second: u16) -> u32 {
 
 /// The class of the instruction of Armv6-M at these halfwords, none if it is undefined or unpredictable. The second is
 /// looked at only if the first begins a 32-bit instruction.
-pub fn strange(first: u16, second: u16) -> Option<u32> {
+pub fn classify(first: u16, second: u16) -> Option<u32> {
     let manual = Manual::get();
     match manual.firsts[first as usize] {
         First::Short(class) => class,
@@ -283,7 +283,7 @@ pub fn strange(first: u16, second: u16) -> Option<u32> {
 
 /// Status and number of the fault at halfwords outside the list.
 pub fn fault(first: u16, second: u16) -> (u32, u32) {
-    strange(first, second).map_or((22, 0), |class| (26, class))
+    classify(first, second).map_or((22, 0), |class| (26, class))
 }
 
 /// The manual's name of the encoding of these halfwords, good or not.

@@ -70,7 +70,7 @@ fn distance(halfword: u32, bits: u32) -> u32 {
 
 /// The fault where pc stands at halfwords that are not in the list.
 #[cold]
-fn strange(code: &[u8], pc: u32) -> (u32, u32) {
+fn unlisted(code: &[u8], pc: u32) -> (u32, u32) {
     let half = |at: usize| code.get(at..at + 2).map_or(0, |pair| u16::from_le_bytes([pair[0], pair[1]]));
     classes::fault(half(pc as usize), half(pc as usize + 2))
 }
@@ -79,7 +79,7 @@ fn strange(code: &[u8], pc: u32) -> (u32, u32) {
 pub fn run(state: &mut State, code: &[u8], memory: &mut [u32], limit: u64) -> (u32, u32, u64) {
     let (mut status, mut number, count) = listed(state, code, memory, limit);
     if status == 22 {
-        (status, number) = strange(code, state.pc);
+        (status, number) = unlisted(code, state.pc);
     }
     (status, number, count)
 }

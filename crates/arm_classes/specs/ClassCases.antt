@@ -3,12 +3,12 @@ use mathlib.Core.Path.{_≡_, refl}
 use mathlib.Core.List.{List, [], _∷_}
 use Prim.Native.Nat.{ℕ}
 use Rattle.arm_word.specs.Ranges.{look}
-use Rattle.arm_classes.specs.declared.Strange.{Strange}
-use Rattle.arm_classes.specs.declared.Strange.the-variants.{Undefined, Unsupported}
+use Rattle.arm_classes.specs.declared.Unlisted.{Unlisted}
+use Rattle.arm_classes.specs.declared.Unlisted.the-variants.{Undefined, Unsupported}
 use Rattle.arm_classes.specs.Classes.{lines, rows, pair-defined, classifyOf}
 
 -- the class, or 0
-abbrev number : Strange → ℕ
+abbrev number : Unlisted → ℕ
 number Undefined = 0
 number (Unsupported class) = class
 

@@ -15,7 +15,7 @@ use Rattle.arm_encoding.specs.EncodingLaws.{known-cases}
 use Rattle.arm_encoding.specs.declared.Instr.{Instr}
 use Rattle.arm_encoding.specs.declared.Decoded.{Decoded}
 use Rattle.arm_encoding.specs.declared.Decoded.the-variants.{Known, Unknown}
-use Rattle.arm_classes.specs.declared.Strange.the-variants.{Undefined, Unsupported}
+use Rattle.arm_classes.specs.declared.Unlisted.the-variants.{Undefined, Unsupported}
 use Rattle.arm_classes.specs.Classes.{lines, class-of, Part, none, rows, pair-defined, defines, defined, classifyOf}
 use Rattle.arm_classes.specs.ClassRows.{in-row}
 
@@ -71,8 +71,8 @@ module _ (h k : ℕ) (b : h < 65536) (u : decodeOf h k ≡ Unknown) where
       (λ e. no-form-behind h (ltb-false h 0xF000 e) b)
 
   -- its first half stands in no row of the list's table, so in one of those outside it
-  pub strange-row : holding rows h ≡ 1
-  strange-row = omega (arith, one-row h b, unknown-in-none h no-form)
+  pub unlisted-row : holding rows h ≡ 1
+  unlisted-row = omega (arith, one-row h b, unknown-in-none h no-form)
 
   -- halfwords of a form are of the list
   in-form : (j : ℕ) → j < 33 → at j .shape .base ≤ h → h < end (at j .shape) → ⊥

@@ -6,8 +6,8 @@ use mathlib.Core.List.{List, [], _∷_}
 use lib.Dec.{eqb}
 use Rattle.arm_word.specs.Choice.{pick}
 use Rattle.arm_word.specs.Ranges.{from-to, Range, range, look}
-use Rattle.arm_classes.specs.declared.Strange.{Strange}
-use Rattle.arm_classes.specs.declared.Strange.the-variants.{Undefined, Unsupported}
+use Rattle.arm_classes.specs.declared.Unlisted.{Unlisted}
+use Rattle.arm_classes.specs.declared.Unlisted.the-variants.{Undefined, Unsupported}
 
 -- ── "the class as a number: the lines of the manual's 16-bit encoding table from 1, the next for all 32-bit ones" ──
 
@@ -178,5 +178,5 @@ abbrev pub defined : ℕ → ℕ → Bool
 defined h k = defines (look none rows h) h k
 
 -- what halfwords are that decode to no instruction of the list
-unfoldable pub classifyOf : ℕ → ℕ → Strange
+unfoldable pub classifyOf : ℕ → ℕ → Unlisted
 classifyOf h k = pick (defined h k) (Unsupported (class-of h)) Undefined

@@ -3,7 +3,7 @@ ghost use mathlib.Core.Path.{_≡_};
 ghost use Rattle.arm_word.specs.Ranges.{from-to};
 ghost use Rattle.arm_classes.specs.Classes as spec;
 
-pub enum Strange {
+pub enum Unlisted {
     // Armv6-M leaves it undefined or unpredictable.
     Undefined,
     // Armv6-M defines it; its class, 1 to 13.
@@ -116,11 +116,11 @@ fn defined(h: u16, k: u16) -> bool
 }
 
 // What halfwords are that decode to no instruction of the list.
-pub fn classify(h: u16, k: u16) -> Strange
+pub fn classify(h: u16, k: u16) -> Unlisted
     ensures { λ r. ⌜ r ≡ spec.classifyOf h k ⌝ }
 {
     if defined(h, k) {
-        return Strange::Unsupported(class_of(h));
+        return Unlisted::Unsupported(class_of(h));
     }
-    Strange::Undefined
+    Unlisted::Undefined
 }

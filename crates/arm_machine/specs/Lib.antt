@@ -5,7 +5,7 @@ pub mod Start
 pub mod Trace
 pub mod Turns
 pub mod StepLaws
-pub mod StrangeLaws
+pub mod UnlistedLaws
 pub mod Placed
 pub mod Iterations
 pub mod RunStill

@@ -8,8 +8,8 @@ use Rattle.arm_encoding.specs.Encoding.{decodeOf}
 use Rattle.arm_encoding.specs.declared.Decoded.{Decoded}
 use Rattle.arm_encoding.specs.declared.Decoded.the-variants.{Known, Unknown}
 use Rattle.arm_classes.specs.Classes.{classifyOf}
-use Rattle.arm_classes.specs.declared.Strange.{Strange}
-use Rattle.arm_classes.specs.declared.Strange.the-variants.{Undefined, Unsupported}
+use Rattle.arm_classes.specs.declared.Unlisted.{Unlisted}
+use Rattle.arm_classes.specs.declared.Unlisted.the-variants.{Undefined, Unsupported}
 use Rattle.arm_state.specs.Effects.{Effect, fault, unsupported, stops, executeOf}
 use Rattle.arm_state.specs.declared.Machine.{Machine}
 use Rattle.arm_state.specs.declared.Stepped.{Stepped}
@@ -38,14 +38,14 @@ unfoldable pub fetchOf : List ℕ → ℕ → Fetched
 fetchOf c a = pick (eqb (a % 2) 0) (pick (leb (a + 2) (length c)) (withSecond c a (halfAt c a)) Outside) Outside
 
 -- "22 not in this list", which request 2026-05 splits: 22 for what Armv6-M leaves undefined or unpredictable, "26, tested with it, for all else that we don't take"
-abbrev pub strange : Machine → Strange → Stepped
-strange m Undefined = fault m 22
-strange m (Unsupported class) = unsupported m class
+abbrev pub unlisted : Machine → Unlisted → Stepped
+unlisted m Undefined = fault m 22
+unlisted m (Unsupported class) = unsupported m class
 
 -- halfwords and what they decode to
 abbrev pub decoded : List ℕ → List ℕ → Machine → ℕ → ℕ → Decoded → Effect
 decoded c w m h k (Known i) = executeOf c w m i
-decoded c w m h k Unknown = stops w (strange m (classifyOf h k))
+decoded c w m h k Unknown = stops w (unlisted m (classifyOf h k))
 
 abbrev pub fetched : List ℕ → List ℕ → Machine → Fetched → Effect
 fetched c w m (Halves h k) = decoded c w m h k (decodeOf h k)

@@ -16,14 +16,14 @@ use Rattle.arm_encoding.specs.Encoding.{decodeOf}
 use Rattle.arm_encoding.specs.declared.Decoded.{Decoded}
 use Rattle.arm_encoding.specs.declared.Decoded.the-variants.{Known, Unknown}
 use Rattle.arm_classes.specs.Classes.{classifyOf}
-use Rattle.arm_classes.specs.declared.Strange.{Strange}
-use Rattle.arm_classes.specs.declared.Strange.the-variants.{Undefined, Unsupported}
+use Rattle.arm_classes.specs.declared.Unlisted.{Unlisted}
+use Rattle.arm_classes.specs.declared.Unlisted.the-variants.{Undefined, Unsupported}
 use Rattle.arm_state.specs.Effects.{after, Effect, done, fault, stops}
 use Rattle.arm_state.specs.Outcome.{Outcome, completed, loaded-word, stored-word, ended-by, faulted, execute-outcome}
 use Rattle.arm_state.specs.declared.Machine.{Machine}
 use Rattle.arm_machine.specs.declared.Fetched.{Fetched}
 use Rattle.arm_machine.specs.declared.Fetched.the-variants.{Halves, Outside}
-use Rattle.arm_machine.specs.Step.{fetchOf, strange, decoded, fetched, onceOf, refusalOf, stepOf, code-limit, memory-limit}
+use Rattle.arm_machine.specs.Step.{fetchOf, unlisted, decoded, fetched, onceOf, refusalOf, stepOf, code-limit, memory-limit}
 
 -- ── a step has one of the outcomes of an instruction ──
 
@@ -31,7 +31,7 @@ pub once-outcome : (c w : List ℕ) (m : Machine) → Outcome w m (onceOf c w m)
 unfolding onceOf
 once-outcome c w m = got (fetchOf c (m .pc))
   where
-    outside : (s : Strange) → Outcome w m (stops w (strange m s))
+    outside : (s : Unlisted) → Outcome w m (stops w (unlisted m s))
     outside Undefined = faulted 22 0 (lit< tt)
     outside (Unsupported class) = faulted 26 class (lit< tt)
 

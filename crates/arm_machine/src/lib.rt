@@ -8,7 +8,7 @@ ghost use Rattle.arm_state.specs.Effects as exec_spec;
 ghost use Rattle.arm_machine.specs.Start as starts;
 ghost use Rattle.arm_machine.specs.Step as steps;
 ghost use Rattle.arm_machine.specs.MachineRun as runs;
-use arm_classes::Strange;
+use arm_classes::Unlisted;
 use arm_encoding::Decoded;
 use arm_state::Core;
 use arm_state::Machine;
@@ -82,10 +82,10 @@ fn fetch(code: &[u8], pc: u32) -> Fetched
 }
 
 // Halfwords that are no instruction of the list: 22, or 26 and their class.
-fn strange(core: Core, h: u16, k: u16) -> Turn
-    ensures { λ r. ⌜ cores.stepped r ≡ steps.strange (cores.whole core) (classes.classifyOf h k) ⌝ }
+fn unlisted(core: Core, h: u16, k: u16) -> Turn
+    ensures { λ r. ⌜ cores.stepped r ≡ steps.unlisted (cores.whole core) (classes.classifyOf h k) ⌝ }
 {
-    let Strange::Unsupported(class) = arm_classes::classify(h, k) else {
+    let Unlisted::Unsupported(class) = arm_classes::classify(h, k) else {
         return core.fault(22);
     };
     core.unsupported(class)
@@ -100,7 +100,7 @@ fn once(core: Core, code: &[u8], memory: &mut [u32]) -> Turn
         return core.fault(21);
     };
     let Decoded::Known(i) = arm_encoding::decode(h, k) else {
-        return strange(core, h, k);
+        return unlisted(core, h, k);
     };
     arm_execute::execute(core, i, code, memory)
 }

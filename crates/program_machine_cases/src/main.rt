@@ -158,7 +158,7 @@ fn meets(name: &[u8], h: u16, k: u16) {
 }
 
 // Outside the list: good Armv6-M, by class, then what is undefined or unpredictable.
-fn strange() {
+fn unlisted() {
     meets(b"ADDS:", 0x1C00, 0);
     meets(b"ASRS:", 0x4100, 0);
     meets(b"MOV:", 0x46C0, 0);
@@ -183,5 +183,5 @@ fn main() {
     encodings();
     runs();
     flags();
-    strange();
+    unlisted();
 }

@@ -228,7 +228,7 @@ fn the_second_classification_is_whole() {
     let mut met = BTreeSet::new();
     for (first, second) in firsts.chain(pairs().iter().copied()) {
         let ours = disassemble(first, second).is_some();
-        assert!(!ours || classes::strange(first, second) == Some(classes::class(first)), "{first:04x}");
+        assert!(!ours || classes::classify(first, second) == Some(classes::class(first)), "{first:04x}");
         met.extend(classes::name(first, second));
     }
     let names: Vec<&str> = classes::names().collect();

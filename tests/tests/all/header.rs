@@ -210,7 +210,7 @@ fn machine_statuses() -> Vec<(&'static str, u64)> {
 
 /// The class of an instruction of each line, in the list or not.
 fn class_numbers() -> Vec<(&'static str, u64)> {
-    let long = |first, second| classes::strange(first, second).expect("an instruction") as u64;
+    let long = |first, second| classes::classify(first, second).expect("an instruction") as u64;
     let short = |halfword| long(halfword, 0);
     vec![
         ("CLASS_IMMEDIATE", short(0x1c00)),      // ADDS r0,r0,0

@@ -27,7 +27,7 @@ once-spec =
     (λ c κs. search needs)
     (λ c. unfold onceOf in let decode = c .before .before .before .decode in let h = c .before .before .before .before .before .h in
     let fetch = c .before .before .before .before .before .before .before .fetch in let x = c .before .before .before .before .before .before .before .before .before .before .args in
-    ap (λ (s : Stepped). after s (now (x .memory))) (c .strange .ensures)
+    ap (λ (s : Stepped). after s (now (x .memory))) (c .unlisted .ensures)
     ∙ ap (λ (d : Decoded). decoded (now (x .code)) (now (x .memory)) (whole (x .core)) (h .given .0 .0) (h .given .0 .1 .0) d .after) (sym (c .before .enum-told2 .given .1) ∙ decode .ensures)
     ∙ ap (λ (f : Fetched). fetched (now (x .code)) (now (x .memory)) (whole (x .core)) f .after) (sym (h .given .1) ∙ fetch .ensures))
     (λ c κs. search needs)

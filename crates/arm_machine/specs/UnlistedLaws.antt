@@ -6,29 +6,29 @@ use borrow.Author.Tests.{eq-eqb}
 use Rattle.arm_encoding.specs.Encoding.{decodeOf}
 use Rattle.arm_encoding.specs.declared.Decoded.the-variants.{Unknown}
 use Rattle.arm_classes.specs.Classes.{classifyOf}
-use Rattle.arm_classes.specs.declared.Strange.{Strange}
-use Rattle.arm_classes.specs.declared.Strange.the-variants.{Undefined, Unsupported}
+use Rattle.arm_classes.specs.declared.Unlisted.{Unlisted}
+use Rattle.arm_classes.specs.declared.Unlisted.the-variants.{Undefined, Unsupported}
 use Rattle.arm_state.specs.Effects.{stops}
 use Rattle.arm_state.specs.declared.Machine.{Machine}
 use Rattle.arm_machine.specs.declared.Fetched.the-variants.{Halves}
-use Rattle.arm_machine.specs.Step.{fetchOf, strange, decoded, fetched, onceOf, refusalOf, stepOf}
+use Rattle.arm_machine.specs.Step.{fetchOf, unlisted, decoded, fetched, onceOf, refusalOf, stepOf}
 use Rattle.arm_machine.specs.MachineRun.{run-after, ran, runFrom, runOf}
 
 module _ (c w : List ℕ) (m : Machine) (h k : ℕ) (accepted : refusalOf c w ≡ 0) (at : fetchOf c (m .pc) ≡ Halves h k) (outside : decodeOf h k ≡ Unknown) where
-  once-strange : onceOf c w m ≡ stops w (strange m (classifyOf h k))
+  once-unlisted : onceOf c w m ≡ stops w (unlisted m (classifyOf h k))
   unfolding onceOf
-  once-strange = ap (fetched c w m) at ∙ ap (decoded c w m h k) outside
+  once-unlisted = ap (fetched c w m) at ∙ ap (decoded c w m h k) outside
 
   -- 22, or 26 with the class; the state and the words of before, no access
-  pub step-strange : stepOf c w m ≡ stops w (strange m (classifyOf h k))
+  pub step-unlisted : stepOf c w m ≡ stops w (unlisted m (classifyOf h k))
   unfolding stepOf
-  step-strange = rw (eq-eqb (refusalOf c w) 0 accepted) once-strange
+  step-unlisted = rw (eq-eqb (refusalOf c w) 0 accepted) once-unlisted
 
   -- and so does a run that comes to it, with nothing counted
-  pub run-strange : (n : ℕ) → runOf (suc n) c w m ≡ run-after (ran (strange m (classifyOf h k)) 0) w
+  pub run-unlisted : (n : ℕ) → runOf (suc n) c w m ≡ run-after (ran (unlisted m (classifyOf h k)) 0) w
   unfolding runOf runFrom
-  run-strange n = rw (eq-eqb (refusalOf c w) 0 accepted) (stopped (classifyOf h k) once-strange)
+  run-unlisted n = rw (eq-eqb (refusalOf c w) 0 accepted) (stopped (classifyOf h k) once-unlisted)
     where
-      stopped : (s : Strange) → onceOf c w m ≡ stops w (strange m s) → runFrom (suc n) 0 c w m ≡ run-after (ran (strange m s) 0) w
+      stopped : (s : Unlisted) → onceOf c w m ≡ stops w (unlisted m s) → runFrom (suc n) 0 c w m ≡ run-after (ran (unlisted m s) 0) w
       stopped Undefined e = rw e
       stopped (Unsupported class) e = rw e
