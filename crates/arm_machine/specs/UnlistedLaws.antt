@@ -24,7 +24,7 @@ module _ (c w : List ℕ) (m : Machine) (h k : ℕ) (accepted : refusalOf c w �
   unfolding stepOf
   step-unlisted = rw (eq-eqb (refusalOf c w) 0 accepted) once-unlisted
 
-  -- and so does a run that comes to it, with nothing counted
+  -- and so does a run that begins here, with nothing counted; of one that comes here later it is the last iteration (`run-is-iterations`)
   pub run-unlisted : (n : ℕ) → runOf (suc n) c w m ≡ run-after (ran (unlisted m (classifyOf h k)) 0) w
   unfolding runOf runFrom
   run-unlisted n = rw (eq-eqb (refusalOf c w) 0 accepted) (stopped (classifyOf h k) once-unlisted)
