@@ -38,7 +38,7 @@ long-apart h k l =
     let below : (first last : ℕ) → last < 0xF800 → from-to first last k ≡ false = λ first last b. above first last k (omega arith) in
     simp (below 0x8000 0x8FFF (lit< tt), below 0x8800 0x88FF (lit< tt), below 0x8F40 0x8F6F (lit< tt), below 0xD000 0xDFFF (lit< tt), below 0xF000 0xF7FF (lit< tt), and-false)
 
--- no instruction of the list is told to be outside it
+-- no instruction of the list is told to be outside it: it stands in no row, or it is BL, whose first half stands in row 41
 pub listed-apart : (h k : ℕ) (i : Instr) → h < 65536 → decodeOf h k ≡ Known i → defined h k ≡ false
 listed-apart h k i b d =
     known-cases h k i (defined h k ≡ false) d
@@ -78,7 +78,7 @@ module _ (h k : ℕ) (b : h < 65536) (u : decodeOf h k ≡ Unknown) where
   in-form : (j : ℕ) → j < 33 → at j .shape .base ≤ h → h < end (at j .shape) → ⊥
   in-form j l f e = let x = row-hit j h l f e in let y = no-form in let z : _≡_ {A = ℕ} 0 1 = cc in omega arith
 
-  -- its class is one of the nine that can be met
+  -- its class is one of the nine that can be met: classes 4, 6, 7 and 12 are all of rows 16 (LDRPCI), 23 (ADDPCI), 24 (ADDSPI) and 32 (BU) of the list's table
   pub class-met : listed met (class-of h) ≡ true
   unfolding lines table listed
   class-met =

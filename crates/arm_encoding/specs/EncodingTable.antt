@@ -21,7 +21,7 @@ use Rattle.arm_encoding.specs.Encoding.{Form, Row, row, form, end, cut, 
 -- ── the table as ranges ──
 
 -- a row's halfwords, and the instruction of each
-abbrev pub range-of : Row → Range (ℕ → Decoded)
+abbrev range-of : Row → Range (ℕ → Decoded)
 range-of r = range (r .shape .base) (end (r .shape) - 1) (λ h. Known (cut r h))
 
 unfoldable pub ranges : List Row → List (Range (ℕ → Decoded))
@@ -51,7 +51,7 @@ find-look (r ∷ rows) h o =
     (λ _. refl)
     (λ _. find-look rows h (w .1)))
 
-pub find-ranges : (h : ℕ) → find table h ≡ look (λ _. Unknown) (ranges table) h h
+find-ranges : (h : ℕ) → find table h ≡ look (λ _. Unknown) (ranges table) h h
 unfolding table some
 find-ranges h = find-look table h refl
 
@@ -77,10 +77,11 @@ ranges-at [] d k = refl
 ranges-at (r ∷ rows) d zero = refl
 ranges-at (r ∷ rows) d (suc k) = ranges-at rows d k
 
--- row k of the table
+-- what stands for a row past the last
 abbrev none : Row
 none = row (form 0 1 1 1) Shli
 
+-- row k of the table
 abbrev pub at : ℕ → Row
 at k = getD table k none
 
@@ -88,15 +89,15 @@ in-order : ordered (ranges table) ≡ true
 unfolding table ranges ordered after
 in-order = refl
 
-rows : length (ranges table) ≡ 33
+row-count : length (ranges table) ≡ 33
 unfolding table ranges
-rows = refl
+row-count = refl
 
 pub row-hit : (k h : ℕ) → k < 33 → at k .shape .base ≤ h → h < end (at k .shape) → find table h ≡ Known (cut (at k) h)
 row-hit k h p l u =
     let e = ranges-at table none k in
     find-ranges h
-    ∙ ap (λ (f : ℕ → Decoded). f h) (hit (λ _. Unknown) (ranges table) (range-of none) k h in-order (rw rows p) (rw e l) (rw e (omega arith)))
+    ∙ ap (λ (f : ℕ → Decoded). f h) (hit (λ _. Unknown) (ranges table) (range-of none) k h in-order (rw row-count p) (rw e l) (rw e (omega arith)))
     ∙ ap (λ (r : Range (ℕ → Decoded)). r .value h) e
 
 -- no row has a halfword from lo to hi

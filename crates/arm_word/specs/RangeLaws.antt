@@ -15,10 +15,10 @@ use Rattle.arm_word.specs.Ranges.{from-to, Range, range, has, look}
 
 -- ── a number and a range ──
 
-pub inside : (first last x : ℕ) → first ≤ x → x ≤ last → from-to first last x ≡ true
+inside : (first last x : ℕ) → first ≤ x → x ≤ last → from-to first last x ≡ true
 inside first last x l u = rw (le-leb first x l, le-leb x last u)
 
-pub below : (first last x : ℕ) → x < first → from-to first last x ≡ false
+below : (first last x : ℕ) → x < first → from-to first last x ≡ false
 below first last x l = rw (lt-leb first x l)
 
 pub above : (first last x : ℕ) → last < x → from-to first last x ≡ false
