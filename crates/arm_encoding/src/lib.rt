@@ -1,4 +1,6 @@
 // The instructions of the subset, and their halfwords.
+#![tactic(auto)]
+
 ghost use Rattle.std.specs.Prelude.{◌≡◌, ◌+◌, ◌*◌, ◌/◌, ◌%◌, ◌≤◌, ◌<◌};
 ghost use Rattle.arm_encoding.specs.Encoding as spec;
 ghost use Rattle.arm_encoding.specs.Encoding.{form, encode_of, decode_of, find, table};

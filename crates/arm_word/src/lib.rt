@@ -1,4 +1,6 @@
 // 32-bit words: the helper functions that the machine's arithmetic is made of.
+#![tactic(auto)]
+
 ghost use Rattle.std.specs.Prelude.{◌≡◌, ◌-◌, ◌<◌, slice_index};
 ghost use Rattle.arm_word.specs.Word as spec;
 ghost use Rattle.arm_word.specs.Carry as carries;

@@ -1,0 +1,22 @@
+-- `arm_encoding::arithmetic` meets its contract: each key of the match is the block of one row; the blocks of its group that no key names hold none.
+-- Rests on the definitions that its contract cites; assumes nothing.
+use mathlib.Core.Path.{refl, sym}
+use mathlib.Core.List.{[], ◌∷◌}
+use native.Mathlib.Omega.{arith}
+use lib.Dec.{lit<}
+use Rattle.arm_word.specs.RangeLaws.{plain}
+use Rattle.arm_encoding.specs.Encoding.{table}
+use Rattle.arm_encoding.specs.EncodingTable.{row_hit, ranges, listed, blocks_clear, rest_miss}
+use Rattle.arm_encoding.proofs.arithmetic.Goals as goal
+
+pub returns-in-12 : goal.returns-in-12
+unfolding table
+returns-in-12 c = rw (c.bits6to8.ensures, c.bits3to5.ensures, c.bits0to2.ensures) (sym (row_hit 3 _ (lit< tt) (omega arith) (omega arith)))
+
+pub returns-in-13 : goal.returns-in-13
+unfolding table
+returns-in-13 c = rw (c.bits6to8-in-13.ensures, c.bits3to5-in-13.ensures, c.bits0to2-in-13.ensures) (sym (row_hit 4 _ (lit< tt) (omega arith) (omega arith)))
+
+pub returns-in_default : goal.returns-in_default
+unfolding table ranges plain listed blocks_clear
+returns-in_default c = sym (rest_miss (13 ∷ 12 ∷ []) 512 4 3 _ (lit< tt) (lit< tt) refl c.requires c.in_default.in_default-own.rest)

@@ -1,0 +1,22 @@
+-- `arm_encoding::equality` meets its contract: each key of the match is the block of one row; the blocks of its group that no key names hold none.
+-- Rests on the definitions that its contract cites; assumes nothing.
+use mathlib.Core.Path.{refl, sym}
+use mathlib.Core.List.{[], ◌∷◌}
+use native.Mathlib.Omega.{arith}
+use lib.Dec.{lit<}
+use Rattle.arm_word.specs.RangeLaws.{plain}
+use Rattle.arm_encoding.specs.Encoding.{table}
+use Rattle.arm_encoding.specs.EncodingTable.{row_hit, ranges, listed, blocks_clear, rest_miss}
+use Rattle.arm_encoding.proofs.equality.Goals as goal
+
+pub returns-in-208 : goal.returns-in-208
+unfolding table
+returns-in-208 c = rw c.near.ensures (sym (row_hit 27 _ (lit< tt) (omega arith) (omega arith)))
+
+pub returns-in-209 : goal.returns-in-209
+unfolding table
+returns-in-209 c = rw c.near-in-209.ensures (sym (row_hit 28 _ (lit< tt) (omega arith) (omega arith)))
+
+pub returns-in_default : goal.returns-in_default
+unfolding table ranges plain listed blocks_clear
+returns-in_default c = sym (rest_miss (209 ∷ 208 ∷ []) 256 8 26 _ (lit< tt) (lit< tt) refl c.requires c.in_default.in_default-own.rest)
