@@ -1,4 +1,6 @@
 // Halfwords that are no instruction of the list: undefined or unpredictable in Armv6-M, or good Armv6-M of some class.
+#![tactic(auto)]
+
 ghost use Rattle.std.specs.Prelude.{◌≡◌};
 ghost use Rattle.arm_word.specs.Ranges.{from_to};
 ghost use Rattle.arm_classes.specs.Classes as spec;

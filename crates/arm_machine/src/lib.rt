@@ -12,7 +12,7 @@ use arm_encoding::Decoded;
 use arm_state::{Core, Machine, Stepped, Turn};
 
 // What a run did (as a step's status and number; 0 where the limit was reached), and how many instructions it completed.
-#[derive(Drop)]
+#[derive(Clone, Copy)]
 pub struct Ran {
     pub machine: Machine,
     pub status: u32,
@@ -20,14 +20,14 @@ pub struct Ran {
     pub count: u64,
 }
 
-#[derive(Drop)]
+#[derive(Clone, Copy)]
 pub struct Started {
     pub status: u32,
     pub machine: Machine,
 }
 
 // The halfwords at pc, the second 0 where the first does not ask for one.
-#[derive(Drop)]
+#[derive(Clone, Copy)]
 pub enum Fetched {
     Halves(u16, u16),
     Outside,

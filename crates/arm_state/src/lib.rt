@@ -1,5 +1,7 @@
 // The machine's state and its changes: each is a method by value that hands back the new state, or the old one with a fault.
 // `Machine` is the state as callers hold it, `Core` the same as a run holds it.
+#![tactic(auto)]
+
 ghost use Rattle.std.specs.Prelude.{◌≡◌, ◌+◌, ◌*◌, ◌<◌, eqb, length, get_or};
 ghost use Rattle.arm_state.specs.State as state;
 ghost use Rattle.arm_state.specs.Effects as spec;
@@ -13,7 +15,7 @@ use arm_word::{
 };
 
 // The flags of Armv6-M's manual: negative, zero, carry, overflow.
-#[derive(Drop)]
+#[derive(Clone, Copy)]
 pub struct Flags {
     pub n: bool,
     pub z: bool,
@@ -21,7 +23,7 @@ pub struct Flags {
     pub v: bool,
 }
 
-#[derive(Drop)]
+#[derive(Clone, Copy)]
 pub struct Machine {
     pub regs: [u32; 8],
     pub sp: u32,
@@ -32,7 +34,7 @@ pub struct Machine {
 
 // What a step did: status 0 one instruction, 1 an SVC, whose number is `number`, 21 to 24 a fault, 26 one whose class is
 // `number`, 31 and 32 a refusal.
-#[derive(Drop)]
+#[derive(Clone, Copy)]
 pub struct Stepped {
     pub machine: Machine,
     pub status: u32,
@@ -41,7 +43,7 @@ pub struct Stepped {
 
 // The state with r0 to r7 as fields, which the compiler keeps apart: an array that is passed by value goes through memory
 // as a whole at each call, and a run takes several times as long.
-#[derive(Drop)]
+#[derive(Clone, Copy)]
 pub struct Core {
     pub r0: u32,
     pub r1: u32,
@@ -58,7 +60,7 @@ pub struct Core {
 }
 
 // What an instruction did, as in `Stepped`.
-#[derive(Drop)]
+#[derive(Clone, Copy)]
 pub struct Turn {
     pub core: Core,
     pub status: u32,
@@ -66,21 +68,21 @@ pub struct Turn {
 }
 
 // The word at an address.
-#[derive(Drop)]
+#[derive(Clone, Copy)]
 pub enum Found {
     Word(u32),
     Outside,
 }
 
 // The data word, by number, at an address.
-#[derive(Drop)]
+#[derive(Clone, Copy)]
 pub enum Slot {
     At(usize),
     Nowhere,
 }
 
 // An address that is a multiple of 4.
-#[derive(Drop)]
+#[derive(Clone, Copy)]
 pub enum Aligned {
     Address(u32),
     Not,

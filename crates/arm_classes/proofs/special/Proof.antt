@@ -1,8 +1,0 @@
--- `arm_classes::special` meets its contract: its calls' answers, put together as in the definition.
--- Rests on the definitions that its contract cites; assumes nothing.
-use borrow.Author.Rules.{rules}
-use Rattle.arm_classes.proofs.special.Statement.{statement}
-use Rattle.arm_classes.proofs.special.Tie as tie
-
-pub special_spec : {M : Type 1} → statement M
-special_spec = tie.close (tie.spec (λ c κs. search rules) (λ c κs. search rules) (λ c. rw (c.before.between.ensures, c.between2.ensures)))
