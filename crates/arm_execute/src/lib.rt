@@ -1,4 +1,6 @@
 // What one instruction does to the machine's state and to the lent words: one arm an instruction.
+#![tactic(auto)]
+
 ghost use Rattle.std.specs.Prelude.{◌≡◌};
 ghost use Rattle.arm_state.specs.MachineCore as cores;
 ghost use Rattle.arm_state.specs.Effects as spec;

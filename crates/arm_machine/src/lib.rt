@@ -1,4 +1,6 @@
 // The machine's public calls: start, step, run.
+#![tactic(auto)]
+
 ghost use Rattle.std.specs.Prelude.{◌≡◌, ◌+◌, ◌<◌, ◌≤◌, length, get_or};
 ghost use Rattle.arm_classes.specs.Classes as classes;
 ghost use Rattle.arm_state.specs.MachineCore as cores;

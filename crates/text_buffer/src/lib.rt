@@ -1,4 +1,6 @@
 // Texts one after another in a lent buffer, as far as there is room.
+#![tactic(auto)]
+
 ghost use Rattle.std.specs.Prelude.{◌≡◌};
 ghost use Rattle.text_lines.specs.Text.{written};
 ghost use Rattle.text_buffer.specs.Buffer.{placed, left};

@@ -1,4 +1,6 @@
 // Lines of text: a line by value, and what can be added to its end.
+#![tactic(auto)]
+
 ghost use Rattle.std.specs.Prelude.{◌≡◌, [], ◌∷◌, ◌++◌, ◌<◌, length};
 ghost use Rattle.text_lines.specs.Text as spec;
 ghost use Rattle.text_lines.specs.Text.{written, fitted};

@@ -1,4 +1,6 @@
 // Zeroing and copying the lent buffers.
+#![tactic(auto)]
+
 ghost use Rattle.std.specs.Prelude.{◌≡◌, ◌++◌, ◌-◌, ◌≤◌, length, take, drop, replicate};
 
 // The words from n on are zeroed.
