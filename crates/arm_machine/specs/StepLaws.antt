@@ -12,7 +12,7 @@ use Rattle.arm_encoding.specs.declared.Decoded.TheVariants.{Known, Unknown}
 use Rattle.arm_classes.specs.Classes.{classify_of}
 use Rattle.arm_classes.specs.declared.Unlisted.{Unlisted}
 use Rattle.arm_classes.specs.declared.Unlisted.TheVariants.{Undefined, Unsupported}
-use Rattle.arm_state.specs.Effects.{after, Effect, done, fault, stops}
+use Rattle.arm_state.specs.Effects.{Effect, done, fault, stops}
 use Rattle.arm_state.specs.Outcome.{Outcome, completed, loaded_word, stored_word, ended_by, faulted, execute_outcome}
 use Rattle.arm_state.specs.declared.Machine.{Machine}
 use Rattle.arm_machine.specs.declared.Fetched.{Fetched}
