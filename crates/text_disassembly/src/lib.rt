@@ -1,4 +1,6 @@
 // An image's instructions as lines of text: address, halfwords, mnemonic and operands.
+#![tactic(auto)]
+
 ghost use Rattle.std.specs.Prelude.{◌≡◌, ◌++◌};
 ghost use Rattle.text_lines.specs.Text.{written, fitted};
 ghost use Rattle.text_disassembly.specs.Disassembly as spec;

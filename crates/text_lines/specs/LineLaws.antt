@@ -1,6 +1,6 @@
 -- Laws of lines: what is added in parts is added whole, a word's digits are ten at most, and numbers come back from their digits.
 -- Rests on Text; assumes nothing.
-use Rattle.std.specs.Prelude.{◌≡◌, refl, List, [], ◌∷◌, ◌++◌, ℕ, zero, suc, ◌+◌, ◌-◌, ◌/◌, ◌%◌, ◌^◌, ◌≤◌, ◌<◌, length, take, set, ltb}
+use Rattle.std.specs.Prelude.{◌≡◌, refl, List, [], ◌∷◌, ◌++◌, ℕ, zero, suc, ◌+◌, ◌/◌, ◌%◌, ◌^◌, ◌≤◌, ◌<◌, length, take, set, ltb}
 use Rattle.std.proofs.Common.{sym, ap, ◌∙◌, append_assoc, append-nil, add-one, ltb-true, ltb-false, length-append, length-take, take_all, take-suc-set}
 use native.Mathlib.Omega.{arith, pow_step}
 use Rattle.std.proofs.lemmas.List.{take-append-le}

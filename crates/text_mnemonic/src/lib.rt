@@ -1,4 +1,6 @@
 // An instruction as text: document 01's mnemonic and the operands, added to the end of a line.
+#![tactic(auto)]
+
 ghost use Rattle.std.specs.Prelude.{◌≡◌, ◌++◌};
 ghost use Rattle.text_lines.specs.Text.{written, fitted};
 ghost use Rattle.text_mnemonic.specs.Mnemonic as spec;

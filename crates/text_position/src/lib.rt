@@ -1,4 +1,6 @@
 // Line and column of a place of a source, and its line as it is shown, with a caret below the place.
+#![tactic(auto)]
+
 ghost use Rattle.std.specs.Prelude.{◌≡◌, ◌++◌, map, ◌+◌, ◌≤◌, ◌<◌, min, length, take};
 ghost use Rattle.text_lines.specs.Text.{written, fitted};
 ghost use Rattle.text_position.specs.Position as spec;

@@ -2,7 +2,6 @@
 -- Assumes nothing.
 use mathlib.Core.Path.{◌≡◌}
 use mathlib.Core.List.{[], ◌∷◌, ◌++◌}
-use borrow.Author.Rules.{rules}
 use Rattle.text_lines.specs.Text.{written, fitted}
 use Rattle.text_lines.specs.LineLaws.{joined}
 use Rattle.text_lines.proofs.hexadecimal.Goals as goal

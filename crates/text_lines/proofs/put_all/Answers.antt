@@ -1,11 +1,11 @@
 -- `text_lines::put_all` meets its contract. The loop's invariant: the bytes before `i` were added to the line that it began with.
-use Prim.Native.Nat.{ℕ, ◌≤◌, ◌<◌, ◌-◌, ◌+◌}
+use Prim.Native.Nat.{ℕ, ◌<◌}
 use mathlib.Core.Path.{◌≡◌, sym, ap, ◌∙◌}
 use mathlib.Core.List.{List, [], ◌∷◌, ◌++◌}
 use native.Mathlib.Omega.{arith}
 use native.Mathlib.Numerals.{add-one}
 use lib.ListN.{length, take, get_or}
-use lib.Seq.{take-suc, take_all}
+use lib.Seq.{take-suc}
 use borrow.Author.Rules.{rules}
 use Rattle.text_lines.specs.Text.{written, fitted}
 use Rattle.text_lines.specs.LineLaws.{joined, put_none}

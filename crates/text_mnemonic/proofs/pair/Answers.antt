@@ -1,0 +1,11 @@
+-- `text_mnemonic::pair` meets its contract: the mnemonic with the first register, and the second, were added.
+-- Assumes nothing.
+use Rattle.text_lines.specs.Text.{written}
+use Rattle.text_lines.specs.LineLaws.{joined}
+use Rattle.text_mnemonic.specs.Mnemonic as spec
+use Rattle.text_mnemonic.proofs.pair.Goals as goal
+
+pub returns : goal.returns
+returns c =
+    let x = c.args in
+    joined (written x.line) (spec.single x.name.now x.d) (spec.next_register x.r) _ _ c.single.ensures c.next_register.ensures
