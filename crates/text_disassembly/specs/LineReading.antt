@@ -1,6 +1,6 @@
 -- Lines fit, give back address and halfwords, and stand for two or four bytes. Laws; rests on Disassembly.
 -- Assumes nothing.
-use Rattle.std.specs.Prelude.{◌≡◌, [], ◌++◌, ℕ, ◌+◌, ◌≤◌, ◌<◌, ltb, length, take, drop}
+use Rattle.std.specs.Prelude.{◌≡◌, [], ◌++◌, ℕ, ◌≤◌, ◌<◌, ltb, length, take, drop}
 use Rattle.std.proofs.Common.{arith, le-ltb, length-append, take_all}
 use Rattle.arm_word.specs.Choice.{pick}
 use Rattle.arm_word.specs.ChoiceLaws.{by_test}
