@@ -1,4 +1,6 @@
 // Resolved programs: see specs/. Here the numbers of their table, and how a row is read, for the code that reads and writes it.
+#![tactic(auto)]
+
 pub mod operator;
 pub mod row;
 pub mod table;
