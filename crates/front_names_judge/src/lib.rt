@@ -1,4 +1,6 @@
 // What a specification deserves, and what it declares: the judging part of filling the name table.
+#![tactic(auto)]
+
 ghost use Rattle.std.specs.Prelude.{◌≡◌, ◌++◌};
 ghost use Rattle.x_tokens.specs.Refusals as refusals;
 ghost use Rattle.x_names.specs.Complaints.{is_known, bad_length, when};
@@ -12,21 +14,21 @@ use x_spelling::kind;
 use x_tokens::refusal;
 
 // The refusal's number and place, if there is one.
-#[derive(Drop)]
+#[derive(Clone, Copy)]
 pub enum Verdict {
     Fine,
     Refused(u32, u32),
 }
 
 // A constant: 0 and its word, or the number of its complaint.
-#[derive(Drop)]
+#[derive(Clone, Copy)]
 pub struct Constant {
     pub status: u32,
     pub word: u32,
 }
 
 // What a specification enters into the name table, and how many rows and words it declares.
-#[derive(Drop)]
+#[derive(Clone, Copy)]
 pub struct Item {
     pub sort: u32,
     pub row: u32,

@@ -1,4 +1,6 @@
 // The name table: what a name stands for, and a name more.
+#![tactic(auto)]
+
 pub mod sort;
 
 ghost use Rattle.std.specs.Prelude.{◌≡◌, ℕ, suc, ◌+◌, ◌<◌, List, ◌∷◌, length, get_or, set};
@@ -7,7 +9,7 @@ ghost use Rattle.front_names_table.specs.View.{meant, bare, view, arrays, seen_b
 ghost use Rattle.front_names_table.specs.View as views;
 
 // What a name stands for: a variable or an array by its row, a val by its word, or nothing that is declared.
-#[derive(Drop)]
+#[derive(Clone, Copy)]
 pub enum Meaning {
     Unknown,
     Variable(u32),

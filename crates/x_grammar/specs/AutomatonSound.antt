@@ -5,8 +5,8 @@ use Rattle.std.proofs.Common.{sym, ap, subst, ◌∙◌, eqb-true}
 use Rattle.arm_word.specs.Choice.{pick}
 use Rattle.arm_word.specs.ChoiceLaws.{both}
 use Rattle.x_spelling.specs.Kinds as kind
-use Rattle.x_grammar.specs.Grammar.{Token, number, name, mark, Expression, single, monadic, Chain, last, more, Operand, variable, Process, skip, stop, assign, assign_element, braces}
-use Rattle.x_grammar.specs.Grammar.{conditional, while, after_comment, Processes, only, followed, Constant, literal, named, Specification, var, array, val, commented, text_expression}
+use Rattle.x_grammar.specs.Grammar.{Token, number, name, mark, Expression, single, monadic, Chain, last, more, Operand, variable, Process, assign, assign_element, braces}
+use Rattle.x_grammar.specs.Grammar.{conditional, while, after_comment, Processes, only, followed, Constant, literal, named, Specification, val, commented, text_expression}
 use Rattle.x_grammar.specs.Grammar.{text_chain, text_operand, text_process, text_processes, text_constant, text_specification, text_specifications, text_program, is_monadic, is_diadic}
 use Rattle.x_grammar.specs.Grammar.{is_associative, WellFormedExpression, WellFormedChain, WellFormedOperand, WellFormedProcess, WellFormedProcesses, WellFormed}
 use Rattle.x_grammar.specs.Automaton.{ProcessContext, top, in_braces, in_then, in_else, in_body, in_comment, ListContext, opened, also, ExpressionContext, in_assign, in_target}
@@ -256,11 +256,15 @@ good_partial : (b : List Specification) (n : ℕ) (x : Partial) (t : Token) → 
 good_partial b n var_read t = good_name (λ w. before_front b (comments n (mark kind.var ∷ w))) _ (λ x. ((λ w. refl), tt)) t
 good_partial b n array_read t = good_name (λ w. before_front b (comments n (mark kind.array ∷ w))) _ (λ x. ((λ w. refl), tt)) t
 good_partial b n (array_named x) t = good_pick _ (is kind.open_subscript t) _ _ (λ h. ((λ w. rw (← is_mark kind.open_subscript t h)), tt)) (λ h. tt)
-good_partial b n (array_opened x) t = good_constant (λ w. before_front b (comments n (mark kind.array ∷ name x ∷ mark kind.open_subscript ∷ w))) _ (λ c. ((λ w. refl), tt)) t
+good_partial b n (array_opened x) t =
+    good_constant (λ w. before_front b (comments n (mark kind.array ∷ name x ∷ mark kind.open_subscript ∷ w)))
+    (λ c. go (specifying b n (array_sized x c))) (λ c. ((λ w. refl), tt)) t
 good_partial b n (array_sized x c) t = good_pick _ (is kind.close_subscript t) _ _ (λ h. ((λ w. rw (← is_mark kind.close_subscript t h)), tt)) (λ h. tt)
 good_partial b n val_read t = good_name (λ w. before_front b (comments n (mark kind.val ∷ w))) _ (λ x. ((λ w. refl), tt)) t
 good_partial b n (val_named x) t = good_pick _ (is kind.equal t) _ _ (λ h. ((λ w. rw (← is_mark kind.equal t h)), tt)) (λ h. tt)
-good_partial b n (val_equated x) t = good_constant (λ w. before_front b (comments n (mark kind.val ∷ name x ∷ mark kind.equal ∷ w))) _ (λ c. ((λ w. refl), tt)) t
+good_partial b n (val_equated x) t =
+    good_constant (λ w. before_front b (comments n (mark kind.val ∷ name x ∷ mark kind.equal ∷ w)))
+    (λ c. go (specifying b n (whole (val x c)))) (λ c. ((λ w. refl), tt)) t
 good_partial b n (whole s) t = good_pick _ (is kind.semicolon t) _ _ (λ h. ((λ w. rw (← is_mark kind.semicolon t h) (ap (before_front b) (comments_text n s (mark kind.semicolon ∷ w)))), tt)) (λ h. tt)
 
 good_front : (b : List Specification) (n : ℕ) (t : Token) → Good (λ w. before_front b (comments n (t ∷ w))) (step_front b n t)

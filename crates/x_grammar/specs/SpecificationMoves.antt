@@ -4,7 +4,7 @@ use Rattle.std.proofs.Common.{◌∙◌, arith}
 use Rattle.std.specs.Prelude.{Bool, true, false, ℕ, zero, suc}
 use mathlib.Core.List.{List, [], ◌∷◌}
 use Rattle.x_spelling.specs.Kinds as kind
-use Rattle.x_grammar.specs.Grammar.{Token, number, name, mark, Process, after_comment, Constant, Specification, var, array, val, program}
+use Rattle.x_grammar.specs.Grammar.{Token, number, name, mark, Process, after_comment, Constant, Specification, var, array, program}
 use Rattle.x_grammar.specs.Automaton.{ProcessContext, top, comments_before, in_comments, in_order, var_read, array_read, array_named, array_opened, array_sized, val_read, val_named}
 use Rattle.x_grammar.specs.Automaton.{val_equated, whole, State, at_front, specifying, need_process, have_process, is, accepted, refused, run}
 use Rattle.x_grammar.specs.AutomatonMoves.{head_is, run_commented}

@@ -1,5 +1,5 @@
 -- The working of the operators on words. Definitions.
-use Rattle.std.specs.Prelude.{ℕ, ◌-◌, not, eqb}
+use Rattle.std.specs.Prelude.{ℕ, not, eqb}
 use Rattle.std.specs.Int.Bits.{bit_and, bit_or, bit_xor}
 use Rattle.arm_word.specs.Word.{add, sub, mul, complement, shift_left, shift_right, signed_less, truth}
 use Rattle.x_program.specs.Tree.{Monadic, negate, invert, Diadic, plus, minus, times, bitwise_and, bitwise_or, bitwise_xor, right, left, equal, unequal, less, at_most, greater, at_least}

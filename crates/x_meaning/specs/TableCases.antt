@@ -1,5 +1,5 @@
 -- Tables by hand and what their walks come to, and tables that 36 refuses: one statement each over a list. Rests on the definition of the table's run.
-use Rattle.std.specs.Prelude.{◌≡◌, refl, Bool, true, false, List, [], ◌∷◌, ◌++◌, map, ℕ}
+use Rattle.std.specs.Prelude.{◌≡◌, refl, true, false, List, [], ◌∷◌, ◌++◌, map, ℕ}
 use Rattle.arm_word.specs.Word.{signed_less}
 use Rattle.arm_word.specs.Access.{Access, loaded, stored}
 use Rattle.x_program.specs.Rows.{row}

@@ -1,5 +1,5 @@
 -- What a walk counts: its steps are within the limit, and its accesses within its steps, since each row that is begun makes at most one. Laws; rests on TableRun.
-use Rattle.std.specs.Prelude.{◌≡◌, refl, Bool, eqb, ltb}
+use Rattle.std.specs.Prelude.{Bool, eqb, ltb}
 use mathlib.Core.List.{List, [], ◌∷◌, ◌++◌}
 use Prim.Native.Nat.{ℕ, zero, suc, ◌+◌, ◌≤◌}
 use native.Mathlib.Omega.{arith}

@@ -1,8 +1,8 @@
 -- How much a valid table's run has to do at a time, and which words it touches: the to-do list and the pile stay short, and every access lies in the data. Laws; rests on TableRun.
 -- A row's parts are earlier rows, so an open row leaves at most three things to do, and each of them at most one word on the pile.
-use Rattle.std.specs.Prelude.{◌≡◌, Bool, true, false, ◌⊎◌, ℕ, zero, suc, ◌+◌, ◌-◌, ◌*◌, ◌≤◌, ◌<◌, length, eqb}
+use Rattle.std.specs.Prelude.{◌≡◌, Bool, ◌⊎◌, ℕ, suc, ◌+◌, ◌*◌, ◌≤◌, ◌<◌, length, eqb}
 use Rattle.std.proofs.Math.Path.{refl}
-use Rattle.std.proofs.Common.{subst, inl, arith, eqb-true, ltb-true, ltb-false}
+use Rattle.std.proofs.Common.{subst, inl, arith, ltb-true}
 use Rattle.std.proofs.Math.Logic.{inr}
 use mathlib.Core.List.{List, [], ◌∷◌, ◌++◌}
 use Rattle.std.proofs.Math.Dec.{ltb}

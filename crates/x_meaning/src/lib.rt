@@ -1,1 +1,3 @@
+#![tactic(auto)]
+
 // What a program means: see specs/.

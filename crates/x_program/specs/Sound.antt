@@ -67,7 +67,17 @@ declared_array i h (later {e = e} {o = o} q) =
     rw (le-ltb (words_of e + o + i) (words_of e) (omega arith), z) (declared_array i h q)
 
 -- an array's length is 1 to 8,192
+IsLength : Declaration → Type 0
+IsLength var = Unit {0}
+IsLength (array n) = (0 < n) × (n ≤ 8192)
+
+declared_length : {ds : List Declaration} {r o : ℕ} {d : Declaration} → Lengths ds → Declares ds r o d → IsLength d
+unfolding IsLength
+declared_length {d = var} l h = tt
+declared_length {d = array n} l (here {ds = ds}) = (l.0, l.1)
+declared_length l (later {e = var} h) = declared_length l h
+declared_length l (later {e = array m} h) = declared_length l.2 h
+
 pub length_of : {ds : List Declaration} {r o n : ℕ} → Lengths ds → Declares ds r o (array n) → (0 < n) × (n ≤ 8192)
-length_of l here = (l.0, l.1)
-length_of l (later {e = var} h) = length_of l h
-length_of l (later {e = array m} h) = length_of l.2 h
+unfolding IsLength
+length_of l h = declared_length l h

@@ -7,7 +7,6 @@ use native.Mathlib.Omega.{arith}
 use Rattle.std.proofs.Math.ListN.{length}
 use borrow.Author.Tests.{eq-eqb, lt-ltb, le-leb, ltb-true, ltb-false}
 use Rattle.arm_word.specs.ChoiceLaws.{by_test}
-use Rattle.arm_word.specs.Ranges.{from_to}
 use Rattle.arm_word.specs.RangeLaws.{inside, above}
 use Rattle.x_program.specs.Layout.{row_words}
 use Rattle.x_program.specs.Layout as layout

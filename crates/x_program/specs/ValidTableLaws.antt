@@ -1,14 +1,13 @@
 -- A row that fits has words that fit, and a table that can be run is one of such rows. Laws; rests on ValidTable and FittingRows.
-use Rattle.std.specs.Prelude.{◌≡◌, refl, Bool, true, false, ◌&&◌, List, ℕ, zero, suc, ◌+◌, ◌-◌, ◌*◌, ◌%◌, ◌≤◌, ◌<◌, length, eqb, ltb, leb}
+use Rattle.std.specs.Prelude.{◌≡◌, refl, Bool, true, ◌&&◌, List, ℕ, zero, suc, ◌-◌, ◌*◌, ◌%◌, ◌≤◌, ◌<◌, length, eqb, ltb}
 use Rattle.std.proofs.Common.{arith, eqb-true, ltb-true, ltb-false, leb-true}
 use Rattle.std.proofs.lemmas.Bool.{eqb-false}
 use Rattle.arm_word.specs.ChoiceLaws.{by_test, pick_and, both}
-use Rattle.arm_word.specs.Ranges.{from_to}
 use Rattle.arm_word.specs.RangeLaws.{bounds}
 use Rattle.x_program.specs.Layout.{row_words}
 use Rattle.x_program.specs.Layout as layout
 use Rattle.x_program.specs.Table.{word}
-use Rattle.x_program.specs.ValidTable.{shape, data_before, declared_in, earlier, fits, row_fits, rows_fit, rows_in, data_in, valid}
+use Rattle.x_program.specs.ValidTable.{shape, data_before, earlier, fits, row_fits, rows_fit, rows_in, data_in, valid}
 use Rattle.x_program.specs.FittingRows.{Earlier, Fit, Fitting, Valid}
 use Rattle.x_program.specs.declared.Field.{Field}
 use Rattle.x_program.specs.declared.Field.TheVariants.{Unknown, Variable, Array, Value, Process, Monadic, Diadic, Offset, One, Length, Word, Unused}

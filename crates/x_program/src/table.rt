@@ -6,7 +6,7 @@ use crate::row;
 use arm_word::word_at;
 
 // A row's four words.
-#[derive(Drop)]
+#[derive(Clone, Copy)]
 pub struct Row {
     pub kind: u32,
     pub a: u32,

@@ -1,4 +1,6 @@
 // The spelling of X's tokens: classes of bytes, runs and numerals, reserved words.
+#![tactic(auto)]
+
 pub mod kind;
 
 ghost use Rattle.std.specs.Prelude.{◌≡◌, [], ◌∷◌, ◌+◌, ◌*◌, ◌≤◌, min, length, get_or, drop};
@@ -9,7 +11,7 @@ ghost use Rattle.x_spelling.specs.Words as words;
 ghost use Rattle.x_spelling.specs.WordLookup as lookup;
 
 // The classes that runs of bytes are of: a name's, a comment's, the digits of a base.
-#[derive(Drop)]
+#[derive(Clone, Copy)]
 pub enum Class {
     Name,
     Comment,
@@ -17,21 +19,21 @@ pub enum Class {
 }
 
 // What the bytes of a name stand for: the kind and the value of their token.
-#[derive(Drop)]
+#[derive(Clone, Copy)]
 pub struct Word {
     pub kind: u8,
     pub value: u32,
 }
 
 // What a name was found to be: a reserved word, with its token, or free to be declared.
-#[derive(Drop)]
+#[derive(Clone, Copy)]
 pub enum Found {
     Reserved(Word),
     Free,
 }
 
 // What a name was found to be, and with how many reserved words it was compared in full.
-#[derive(Drop)]
+#[derive(Clone, Copy)]
 pub struct Lookup {
     pub found: Found,
     pub compared: u32,

@@ -1,4 +1,6 @@
 // The tokens of X: a source's bytes to token arrays, or the refusal among 1 to 5.
+#![tactic(auto)]
+
 pub mod refusal;
 
 ghost use Rattle.std.specs.Prelude.{◌≡◌, ◌<◌, ◌≤◌, length, drop};
@@ -10,7 +12,7 @@ use x_spelling::{
 };
 
 // What stands at the front: a separator, a token (kind, length, value), or a refusal's number.
-#[derive(Drop)]
+#[derive(Clone, Copy)]
 pub enum Lexeme {
     Separator,
     Token(u8, usize, u32),
@@ -18,7 +20,7 @@ pub enum Lexeme {
 }
 
 // The answer: how many tokens, or the refusal's number and place.
-#[derive(Drop)]
+#[derive(Clone, Copy)]
 pub enum Scanned {
     Read(usize),
     Refused(u32, usize),

@@ -18,7 +18,7 @@ use Rattle.x_names.specs.Least.{least_none}
 use Rattle.x_names.specs.Resolve.{resolve}
 use Rattle.x_verdict.specs.Symbols.{place_of, text_of, symbols}
 use Rattle.x_verdict.specs.IsX.{IsX, Room}
-use Rattle.x_verdict.specs.Front.{Outcome, refused, accepted, judged, named, parsed, tokened, front}
+use Rattle.x_verdict.specs.Front.{refused, accepted, judged, named, parsed, tokened, front}
 
 -- X is accepted
 pub accepts_X : (source : List ℕ) (ts : List Entry) (p : grammar.Program) (table code : ℕ) → IsX source ts p → Room (length ts) table code

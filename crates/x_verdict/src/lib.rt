@@ -1,1 +1,3 @@
+#![tactic(auto)]
+
 // The front end: see specs/.

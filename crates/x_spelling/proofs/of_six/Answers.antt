@@ -1,0 +1,19 @@
+-- `x_spelling::of_six` meets its contract. Each way through the code has the candidates of its letter.
+-- Assumes nothing.
+use borrow.Author.Tests.{ne_eqb}
+use Rattle.x_spelling.specs.Words.{reserved}
+use Rattle.x_spelling.specs.WordLookup.{candidates, compare}
+use Rattle.x_spelling.proofs.of_six.Goals as goal
+
+pub returns-in-114 : goal.returns-in-114
+unfolding candidates reserved compare
+returns-in-114 c = rw (← c.byte-first.ensures, c.in-114.is, ← c.is.ensures) c.only.ensures
+
+pub returns-in_default : goal.returns-in_default
+unfolding candidates reserved compare
+returns-in_default c =
+    let first = c.byte-first.result in let rest = c.in_default.in_default-own.rest in
+    rw (
+      ← c.byte-first.ensures,
+      ne_eqb first 114 rest.1,
+    ) c.looked.ensures
