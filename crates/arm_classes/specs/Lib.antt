@@ -1,5 +1,5 @@
 -- Halfwords outside the list: the classes and what is undefined, and their laws.
 pub mod Classes
 pub mod ClassRows
-pub mod ClassLaws
+pub mod Told
 pub mod ClassCases

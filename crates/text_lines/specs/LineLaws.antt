@@ -57,6 +57,13 @@ digits_one k n h =
     (λ _ e. absurd (omega (arith, ltb-false n 10 e)))
     refl
 
+-- the same of a word
+pub decimal_step : (n : ℕ) → 10 ≤ n → n < 10000000000 → decimal n ≡ decimal (n / 10) ++ (digit (n % 10) ∷ [])
+decimal_step = digits_step 8
+
+pub decimal_one : (n : ℕ) → n < 10 → decimal n ≡ digit n ∷ []
+decimal_one = digits_one 8
+
 -- a word as a number of 64 bits
 pub word_decimal : (n : ℕ) → n < 4294967296 → long_decimal n ≡ decimal n
 word_decimal n h = sym (more 10 9 (omega arith))

@@ -8,9 +8,8 @@ ghost use Rattle.translate_image_values.specs.Well.{Well, WellProcess, WellSingl
 ghost use Rattle.translate_image_values.specs.RowCode.{process_in};
 
 use arm_encoding::Instr;
-use translate_image_values::{assign, assign_element, expression};
+use translate_image_values::{assign, assign_element, expression, read_row};
 use x_program::row;
-use x_program::table::row_at;
 
 // The code of the process in row r. Lists are grouped to the right: a part at a time, then the last.
 #[cycle(conditional_process_repeat_single)]
@@ -20,11 +19,11 @@ fn process(table: &[u32], code: &mut [u8], r: usize, at: usize) -> usize
 {
     let mut last = r;
     let mut to = at;
-    let mut w = row_at(table, r);
+    let mut w = read_row(table, r);
     while w.kind == row::SEQUENCE {
         to = process(table, code, w.a as usize, to);
         last = w.b as usize;
-        w = row_at(table, last);
+        w = read_row(table, last);
     }
     single(table, code, last, to)
 }
@@ -35,7 +34,7 @@ fn single(table: &[u32], code: &mut [u8], r: usize, at: usize) -> usize
     requires { WellSingle table.now r × Room code.old at (process_in table.now r) }
     ensures { Wrote code.old at (process_in table.now r) code.new result }
 {
-    let w = row_at(table, r);
+    let w = read_row(table, r);
     let kind = w.kind;
     if kind == row::SKIP {
         return at;
@@ -61,7 +60,7 @@ fn conditional(table: &[u32], code: &mut [u8], r: usize, at: usize) -> usize
     requires { Well layout.if layout.if table.now r × Room code.old at (process_in table.now r) }
     ensures { Wrote code.old at (process_in table.now r) code.new result }
 {
-    let w = row_at(table, r);
+    let w = read_row(table, r);
     let a1 = expression(table, code, w.a as usize, at);
     let a2 = translate_emit_blocks::take_condition(code, a1);
     let a3 = process(table, code, w.b as usize, a2 + 4);
@@ -77,7 +76,7 @@ fn repeat(table: &[u32], code: &mut [u8], r: usize, at: usize) -> usize
     requires { Well layout.while layout.while table.now r × Room code.old at (process_in table.now r) }
     ensures { Wrote code.old at (process_in table.now r) code.new result }
 {
-    let w = row_at(table, r);
+    let w = read_row(table, r);
     let a1 = expression(table, code, w.a as usize, at);
     let a2 = translate_emit_blocks::take_condition(code, a1);
     let a3 = process(table, code, w.b as usize, a2 + 4);

@@ -1,17 +1,17 @@
 -- What a row of each kind says of its code and of the rows that it names, in the words that were read from it. Laws; assume nothing.
-use Rattle.std.specs.Prelude.{◌≡◌, List, [], ◌∷◌, ◌++◌, ℕ, ◌≤◌, ◌<◌}
+use Rattle.std.specs.Prelude.{◌≡◌, List, [], ◌∷◌, ◌++◌, ℕ, ◌+◌, ◌*◌, ◌≤◌, ◌<◌, length}
 use Rattle.std.proofs.Math.Path.{refl, ap}
 use Rattle.std.proofs.Common.{sym, ◌∙◌, arith}
+use Rattle.x_program.specs.Layout.{row_words}
 use Rattle.x_program.specs.Layout as layout
 use Rattle.arm_encoding.specs.declared.Instr.{Instr}
 use Rattle.arm_encoding.specs.declared.Instr.TheVariants.{Svc}
-use Rattle.x_program.specs.Table.{word, row_in, monadic_of, diadic_of, expression_at, process_at}
+use Rattle.x_program.specs.Table.{word, monadic_of, diadic_of, expression_at, process_at}
 use Rattle.x_program.specs.TableLaws.{at_constant, at_variable, at_element, at_monadic, at_diadic, at_skip, at_stop, at_assign, at_assign_element, at_sequence, at_conditional, at_loop}
 use Rattle.translate_rules.specs.Blocks.{push_constant, push_variable, check_subscript, load_element, work_monadic_code, work_diadic_code, assign_variable, store_element}
 use Rattle.translate_rules.specs.ImageCode.{expression_code, process_code, choice_code, repeat_code}
-use Rattle.x_program.specs.FittingRows.{Earlier}
-use Rattle.x_program.specs.declared.table.Row.{Row}
-use Rattle.translate_image_values.specs.Well.{Declared, Expression, Process, Names, Well}
+use Rattle.translate_image_values.specs.declared.Row.{Row}
+use Rattle.translate_image_values.specs.Well.{row_in, Declared, Earlier, Expression, Process, Names, Well}
 
 -- the code of the expression in row r, of the process
 abbrev pub expression_in : List ℕ → ℕ → List Instr
@@ -21,16 +21,19 @@ abbrev pub process_in : List ℕ → ℕ → List Instr
 process_in t r = process_code (process_at t r)
 
 module _ {low high : ℕ} {t : List ℕ} {r : ℕ} (h : Well low high t r) where
-  -- a named row can be read on from
+  -- a named row can be read on from, a declaration's can be read
   pub named : {l m s : ℕ} → Earlier l m t r s → Well l m t s
-  named q = record { from = q.from; to = q.to; names = λ k b. h.names k (omega (arith, q.earlier)) }
+  named q = record { inside = omega (arith, h.inside, q.earlier); from = q.from; to = q.to; names = λ k b. h.names k (omega (arith, q.earlier)) }
+
+  pub declared : {d : ℕ} → Declared t r d → row_words * d + row_words ≤ length t
+  declared q = omega (arith, h.inside, q.earlier)
 
   pub offset_small : {d : ℕ} {v : Row} → v ≡ row_in t d → Declared t r d → v.a ≤ 8192
   offset_small e q = rw e q.offset
 
   -- a row of one kind
   pub only : {k : ℕ} → word t r 0 ≡ k → Well k k t r
-  only e = record { from = omega (arith, e); to = omega (arith, e); names = h.names }
+  only e = record { inside = h.inside; from = omega (arith, e); to = omega (arith, e); names = h.names }
 
   names : Names t r
   names = h.names r (omega arith)

@@ -1,14 +1,25 @@
 -- What the walk over a syntax table asks of it: each row names only rows before it, of the fitting sort. Definitions.
-use Rattle.std.specs.Prelude.{◌≡◌, List, ℕ, ◌≤◌, ◌<◌, eqb}
+use Rattle.std.specs.Prelude.{◌≡◌, List, ℕ, ◌+◌, ◌*◌, ◌≤◌, ◌<◌, length, eqb}
 use Rattle.arm_word.specs.Choice.{pick}
+use Rattle.x_program.specs.Layout.{row_words}
 use Rattle.x_program.specs.Layout as layout
 use Rattle.x_program.specs.Table.{word}
-use Rattle.x_program.specs.FittingRows.{Earlier}
+use Rattle.translate_image_values.specs.declared.Row.{Row}
+
+-- the four words of row r
+abbrev pub row_in : List ℕ → ℕ → Row
+row_in t r = record { kind = word t r 0; a = word t r 1; b = word t r 2; c = word t r 3 }
 
 -- row d stands before row r, and its offset is one in data: "data above 8,192 words" is refused
 pub record Declared (t : List ℕ) (r d : ℕ) : Type 0 where
   pub earlier : d < r
   pub offset : word t d 1 ≤ 8192
+
+-- row s stands before row r, and its kind is from `low` to `high`
+pub record Earlier (low high : ℕ) (t : List ℕ) (r s : ℕ) : Type 0 where
+  pub earlier : s < r
+  pub from : low ≤ word t s 0
+  pub to : word t s 0 ≤ high
 
 -- "3 number [to] 7 diadic" are the expressions, "8 skip [to] 14 while" the processes
 abbrev pub Expression : List ℕ → ℕ → ℕ → Type 0
@@ -32,8 +43,9 @@ Names t r =
     (pick (eqb (word t r 0) layout.while) (Expression t r (word t r 1) × Process t r (word t r 2))
     (Unit {0})))))))))
 
--- the kind of row r is from `low` to `high`, and it and all rows before it name what they should
+-- row r is in the table, its kind is from `low` to `high`, and it and all rows before it name what they should
 pub record Well (low high : ℕ) (t : List ℕ) (r : ℕ) : Type 0 where
+  pub inside : row_words * r + row_words ≤ length t
   pub from : low ≤ word t r 0
   pub to : word t r 0 ≤ high
   pub names : (s : ℕ) → s ≤ r → Names t s

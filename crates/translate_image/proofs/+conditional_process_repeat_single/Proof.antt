@@ -11,14 +11,13 @@ use Rattle.translate_emit_blocks.specs.Jumps.{then_room, then_ahead, else_room, 
 use Rattle.translate_image_values.specs.RowCode.{named, only, kind_is, kind_from, kind_to, skip_code, stop_code, conditional_names, conditional_code, loop_names, loop_code}
 use Rattle.translate_image.specs.Onward.{Onward, onward, last, left, right, left_asks, turn, only_loop}
 use Prim.Native.Nat.{ℕ, ◌<◌}
-use borrow.Author.Rules.{rules}
 use borrow.Fn.Kinds.{In}
 use borrow.Fn.PlainCycle.{Measures, is, falls, and}
 use Rattle.translate_image.proofs.conditional.Reads as conditional
 use Rattle.translate_image.proofs.conditional.Kinds as conditional-kinds
 use Rattle.translate_image.proofs.+conditional_process_repeat_single.Lts-conditional as conditional-lts
 use Rattle.translate_image.proofs.process.Reads as process
-use Rattle.translate_image.proofs.process.Kinds as process_kinds
+use Rattle.translate_image.proofs.process.Kinds as process-kinds
 use Rattle.translate_image.proofs.+conditional_process_repeat_single.Lts-process as process-lts
 use Rattle.translate_image.proofs.repeat.Reads as repeat
 use Rattle.translate_image.proofs.repeat.Kinds as repeat-kinds
@@ -33,14 +32,14 @@ use Rattle.translate_emit_blocks.proofs.take_condition.Reads as take-condition-r
 use Rattle.translate_image_values.proofs.assign.Reads as assign_reads
 use Rattle.translate_image_values.proofs.assign_element.Reads as assign-element-reads
 use Rattle.translate_image_values.proofs.expression.Reads as expression-reads
-use Rattle.x_program.proofs.table.row_at.Reads as row-at-reads
+use Rattle.translate_image_values.proofs.read_row.Reads as read-row-reads
 use Rattle.translate_image.proofs.+conditional_process_repeat_single.{statement}
 use Rattle.translate_image.proofs.+conditional_process_repeat_single.Tie.{close}
 
 abbrev μ_conditional : Measures 2 conditional-kinds.ps ℕ
 μ_conditional κs a = 3 * a.1.1.0
 
-abbrev μ_process : Measures 2 process_kinds.ps ℕ
+abbrev μ_process : Measures 2 process-kinds.ps ℕ
 μ_process κs a = 3 * a.1.1.0 + 2
 
 abbrev μ_repeat : Measures 2 repeat-kinds.ps ℕ
@@ -57,11 +56,11 @@ abbrev conditional_below : ℕ → In 2 conditional-kinds.ps
 conditional_below t =
     and 2 conditional-kinds.ps (falls 2 conditional-kinds.ps ◌<◌ μ_conditional t) conditional.Pre
 
-abbrev process_at : ℕ → In 2 process_kinds.ps
-process_at t = and 2 process_kinds.ps (is 2 process_kinds.ps μ_process t) process.Pre
+abbrev process_at : ℕ → In 2 process-kinds.ps
+process_at t = and 2 process-kinds.ps (is 2 process-kinds.ps μ_process t) process.Pre
 
-abbrev process_below : ℕ → In 2 process_kinds.ps
-process_below t = and 2 process_kinds.ps (falls 2 process_kinds.ps ◌<◌ μ_process t) process.Pre
+abbrev process_below : ℕ → In 2 process-kinds.ps
+process_below t = and 2 process-kinds.ps (falls 2 process-kinds.ps ◌<◌ μ_process t) process.Pre
 
 abbrev repeat_at : ℕ → In 2 repeat-kinds.ps
 repeat_at t = and 2 repeat-kinds.ps (is 2 repeat-kinds.ps μ_repeat t) repeat.Pre
@@ -77,8 +76,8 @@ single_below t = and 2 single-kinds.ps (falls 2 single-kinds.ps ◌<◌ μ_singl
 
 abbrev conditional_calls : ℕ → conditional-lts.Claims
 conditional_calls t = (
-  row-at-reads.Asked,
-  row-at-reads.Learnt,
+  read-row-reads.Asked,
+  read-row-reads.Learnt,
   expression-reads.Asked,
   expression-reads.Learnt,
   take-condition-reads.Asked,
@@ -90,12 +89,12 @@ conditional_calls t = (
 )
 
 abbrev process_calls : ℕ → process-lts.Claims
-process_calls t = (row-at-reads.Asked, row-at-reads.Learnt, process_below t, process.Post, single_below t, single.Post)
+process_calls t = (read-row-reads.Asked, read-row-reads.Learnt, process_below t, process.Post, single_below t, single.Post)
 
 abbrev repeat_calls : ℕ → repeat-lts.Claims
 repeat_calls t = (
-  row-at-reads.Asked,
-  row-at-reads.Learnt,
+  read-row-reads.Asked,
+  read-row-reads.Learnt,
   expression-reads.Asked,
   expression-reads.Learnt,
   take-condition-reads.Asked,
@@ -110,8 +109,8 @@ repeat_calls t = (
 
 abbrev single_calls : ℕ → single-lts.Claims
 single_calls t = (
-  row-at-reads.Asked,
-  row-at-reads.Learnt,
+  read-row-reads.Asked,
+  read-row-reads.Learnt,
   put_reads.Asked,
   put_reads.Learnt,
   assign_reads.Asked,
@@ -131,11 +130,11 @@ abbrev decreases_loop : process-lts.decreases_loop
 decreases_loop table code₀ r at row₀ to₀ w₀ code row to w = row
 
 -- past the other kinds only the loop is left
-last_kind : (t : ℕ) (c : single-lts.Else5 (single_calls t) (single_at t) single.Post) → c.before.before.before.before.before.row_at.result.kind ≡ layout.while
+last_kind : (t : ℕ) (c : single-lts.Else5 (single_calls t) (single_at t) single.Post) → c.before.before.before.before.before.read-row.result.kind ≡ layout.while
 last_kind t c =
-    let if1 = c.before.before.before.before.if1 in let row_at = c.before.before.before.before.before.row_at in
+    let if1 = c.before.before.before.before.if1 in let read-row = c.before.before.before.before.before.read-row in
     let start = c.before.before.before.before.before.before.before.before in let h = start.requires.1.0.0 in
-    let e = row_at.ensures in
+    let e = read-row.ensures in
     only_loop (kind_from h e) (kind_to h e) if1.false c.before.before.before.if2.false c.before.before.if3.false c.before.if4.false
     (λ q. start.requires.1.0.1 (kind_is h e q)) c.if5.false
 
@@ -144,87 +143,88 @@ pub +conditional-process-repeat-single-spec : {M : Type 1} → statement M
     close μ_conditional μ_process μ_repeat μ_single (λ t. conditional-lts.spec (conditional_calls t)
     (conditional_at t)
     conditional.Post
-    (λ c κs. search rules)
+    (λ c κs. c.before.before.requires.1.0.inside)
     (λ c. omega arith)
     (λ c κs. let start = c.before.before.before.before.before in (
-      named start.requires.1.0 (conditional_names start.requires.1.0 c.before.before.row_at.ensures).0,
-      first _ (rw (conditional_code start.requires.1.0 c.before.before.row_at.ensures) at start.requires.1.1),
+      named start.requires.1.0 (conditional_names start.requires.1.0 c.before.before.read-row.ensures).0,
+      first _ (rw (conditional_code start.requires.1.0 c.before.before.read-row.ensures) at start.requires.1.1),
     ))
-    (λ c κs. unfold choice_code in let row_at = c.before.before.before.before.before.before.row_at in
+    (λ c κs. unfold choice_code in let read-row = c.before.before.before.before.before.before.read-row in
     let start = c.before.before.before.before.before.before.before.before.before in
-    first _ (rest c.before.before.before.expression.ensures (rw (conditional_code start.requires.1.0 row_at.ensures) at start.requires.1.1)))
+    first _ (rest c.before.before.before.expression.ensures (rw (conditional_code start.requires.1.0 read-row.ensures) at start.requires.1.1)))
     (λ c. omega arith)
     (λ c. let take_condition = c.before.before.before.before.take-condition in let expression = c.before.before.before.before.before.before.before.before.expression in
-    let row_at = c.before.before.before.before.before.before.before.before.before.before.before.row_at in
+    let read-row = c.before.before.before.before.before.before.before.before.before.before.before.read-row in
     let start = c.before.before.before.before.before.before.before.before.before.before.before.before.before.before in
-    omega (arith, (then_room _ _ _ (rw (conditional_code start.requires.1.0 row_at.ensures) at start.requires.1.1) expression.ensures take_condition.ensures).near))
+    omega (arith, (then_room _ _ _ (rw (conditional_code start.requires.1.0 read-row.ensures) at start.requires.1.1) expression.ensures take_condition.ensures).near))
     (λ c κs. let take_condition = c.before.before.before.before.take-condition in let expression = c.before.before.before.before.before.before.before.before.expression in
-    let row_at = c.before.before.before.before.before.before.before.before.before.before.before.row_at in
+    let read-row = c.before.before.before.before.before.before.before.before.before.before.before.read-row in
     let start = c.before.before.before.before.before.before.before.before.before.before.before.before.before.before in
-    let n = (conditional_names start.requires.1.0 row_at.ensures).1 in (
+    let n = (conditional_names start.requires.1.0 read-row.ensures).1 in (
       omega (arith, n.earlier, start.requires.0),
-      (named start.requires.1.0 n, then_room _ _ _ (rw (conditional_code start.requires.1.0 row_at.ensures) at start.requires.1.1) expression.ensures take_condition.ensures),
+      (named start.requires.1.0 n, then_room _ _ _ (rw (conditional_code start.requires.1.0 read-row.ensures) at start.requires.1.1) expression.ensures take_condition.ensures),
     ))
     (λ c. let c8 = c.before.before.before.before.before.before.before.before in let c12 = c8.before.before.before.before in let c15 = c12.before.before.before in
     let c18 = c15.before.before.before in
     omega (
       arith,
-      (then_ahead _ _ _ (rw (conditional_code c18.requires.1.0 c15.row_at.ensures) at c18.requires.1.1) c12.expression.ensures c8.take-condition.ensures
+      (then_ahead _ _ _ (rw (conditional_code c18.requires.1.0 c15.read-row.ensures) at c18.requires.1.1) c12.expression.ensures c8.take-condition.ensures
           c.before.before.before.process.ensures).reach,
     ))
     (λ c κs. let c8 = c.before.before.before.before.before.before.before.before in let c12 = c8.before.before.before.before in let c15 = c12.before.before.before in
     let c18 = c15.before.before.before in
-    then_ahead _ _ _ (rw (conditional_code c18.requires.1.0 c15.row_at.ensures) at c18.requires.1.1) c12.expression.ensures c8.take-condition.ensures
+    then_ahead _ _ _ (rw (conditional_code c18.requires.1.0 c15.read-row.ensures) at c18.requires.1.1) c12.expression.ensures c8.take-condition.ensures
     c.before.before.before.process.ensures)
     (λ c. omega arith)
     (λ c. let c8 = c.before.before.before.before.before.before.before.before in let c13 = c8.before.before.before.before.before in
     let c17 = c13.before.before.before.before in let c20 = c17.before.before.before in let c23 = c20.before.before.before in
     omega (
       arith,
-      (then_ahead _ _ _ (rw (conditional_code c23.requires.1.0 c20.row_at.ensures) at c23.requires.1.1) c17.expression.ensures c13.take-condition.ensures
+      (then_ahead _ _ _ (rw (conditional_code c23.requires.1.0 c20.read-row.ensures) at c23.requires.1.1) c17.expression.ensures c13.take-condition.ensures
           c8.process.ensures).reach,
     ))
     (λ c κs. let c4 = c.before.before.before.before in let c8 = c4.before.before.before.before in let c13 = c8.before.before.before.before.before in
     let c17 = c13.before.before.before.before in let c20 = c17.before.before.before in let c23 = c20.before.before.before in
-    let n = (conditional_names c23.requires.1.0 c20.row_at.ensures).2 in (
+    let n = (conditional_names c23.requires.1.0 c20.read-row.ensures).2 in (
       omega (arith, n.earlier, c23.requires.0),
       (
         named c23.requires.1.0 n,
-        else_room _ _ _ (rw (conditional_code c23.requires.1.0 c20.row_at.ensures) at c23.requires.1.1) c17.expression.ensures c13.take-condition.ensures
+        else_room _ _ _ (rw (conditional_code c23.requires.1.0 c20.read-row.ensures) at c23.requires.1.1) c17.expression.ensures c13.take-condition.ensures
             c8.process.ensures c4.jump_over.ensures,
       ),
     ))
     (λ c κs. let c8 = c.before.before.before.before.before.before.before.before in let c12 = c8.before.before.before.before in
     let c17 = c12.before.before.before.before.before in let c21 = c17.before.before.before.before in let c24 = c21.before.before.before in
     let c27 = c24.before.before.before in
-    else_ahead _ _ _ (rw (conditional_code c27.requires.1.0 c24.row_at.ensures) at c27.requires.1.1) c21.expression.ensures c17.take-condition.ensures
+    else_ahead _ _ _ (rw (conditional_code c27.requires.1.0 c24.read-row.ensures) at c27.requires.1.1) c21.expression.ensures c17.take-condition.ensures
     c12.process.ensures c8.jump_over.ensures c.before.before.before.process2.ensures)
     (λ c. let c6 = c.before.before.before.before.before.before in let c11 = c6.before.before.before.before.before in let c15 = c11.before.before.before.before in
     let c20 = c15.before.before.before.before.before in let c24 = c20.before.before.before.before in let c27 = c24.before.before.before in
     let c30 = c27.before.before.before in
-    kept (choice_wrote _ _ _ (rw (conditional_code c30.requires.1.0 c27.row_at.ensures) at c30.requires.1.1) c24.expression.ensures c20.take-condition.ensures
+    kept (choice_wrote _ _ _ (rw (conditional_code c30.requires.1.0 c27.read-row.ensures) at c30.requires.1.1) c24.expression.ensures c20.take-condition.ensures
     c15.process.ensures c11.jump_over.ensures c6.process2.ensures c.before.before.jump-over2.ensures))
     (λ c. let c6 = c.before.before.before.before.before.before in let c11 = c6.before.before.before.before.before in let c15 = c11.before.before.before.before in
     let c20 = c15.before.before.before.before.before in let c24 = c20.before.before.before.before in let c27 = c24.before.before.before in
     let c30 = c27.before.before.before in
-    rw (conditional_code c30.requires.1.0 c27.row_at.ensures)
-    (choice_wrote _ _ _ (rw (conditional_code c30.requires.1.0 c27.row_at.ensures) at c30.requires.1.1) c24.expression.ensures c20.take-condition.ensures
+    rw (conditional_code c30.requires.1.0 c27.read-row.ensures)
+    (choice_wrote _ _ _ (rw (conditional_code c30.requires.1.0 c27.read-row.ensures) at c30.requires.1.1) c24.expression.ensures c20.take-condition.ensures
     c15.process.ensures c11.jump_over.ensures c6.process2.ensures c.before.before.jump-over2.ensures)))
     (λ t. process-lts.spec (process_calls t)
     (process_at t)
     process.Post
     invariant_loop
     decreases_loop
-    (λ c κs. search rules)
-    (λ c. onward c.row_at.ensures c.before.before.before.requires.1.0 c.before.before.before.requires.1.1)
+    (λ c κs. c.before.before.requires.1.0.inside)
+    (λ c. onward c.read-row.ensures c.before.before.before.requires.1.0 c.before.before.before.requires.1.1)
     (λ c. omega arith)
     (λ c κs. let turn = c.before.before.before.before.loop in let start = c.before.before.before.before.before.before.before.before in
     (omega (arith, (left turn.invariant c.before.before.if1.true).earlier, turn.invariant.least, start.requires.0), left_asks turn.invariant c.before.before.if1.true))
     (λ c. omega arith)
-    (λ c κs. search rules)
+    (λ c κs. let if1 = c.before.before.before.before.before.before.if1 in let turn = c.before.before.before.before.before.before.before.before.loop in
+    (named turn.invariant.well (right turn.invariant if1.true)).inside)
     (λ c. (right c.before.before.before.before.before.before.before.before.before.loop.invariant c.before.before.before.before.before.before.before.if1.true).earlier)
     (λ c. let process = c.before.before.before.before.process in let if1 = c.before.before.before.before.before.before.before.if1 in
-    let turn' = c.before.before.before.before.before.before.before.before.before.loop in turn turn'.invariant if1.true c.row-at2.ensures process.ensures)
+    let turn' = c.before.before.before.before.before.before.before.before.before.loop in turn turn'.invariant if1.true c.read-row2.ensures process.ensures)
     (λ c κs. let turn = c.before.before.before.loop in let start = c.before.before.before.before.before.before.before in
     (omega (arith, turn.invariant.least, start.requires.0), (last turn.invariant c.before.if1.false, turn.invariant.room)))
     (λ c. kept (c.before.before.before.before.before.before.loop.invariant.ends _ _ c.before.before.single.ensures))
@@ -232,76 +232,76 @@ pub +conditional-process-repeat-single-spec : {M : Type 1} → statement M
     (λ t. repeat-lts.spec (repeat_calls t)
     (repeat_at t)
     repeat.Post
-    (λ c κs. search rules)
+    (λ c κs. c.before.before.requires.1.0.inside)
     (λ c. omega arith)
     (λ c κs. let start = c.before.before.before.before.before in (
-      named start.requires.1.0 (loop_names start.requires.1.0 c.before.before.row_at.ensures).0,
-      first _ (rw (loop_code start.requires.1.0 c.before.before.row_at.ensures) at start.requires.1.1),
+      named start.requires.1.0 (loop_names start.requires.1.0 c.before.before.read-row.ensures).0,
+      first _ (rw (loop_code start.requires.1.0 c.before.before.read-row.ensures) at start.requires.1.1),
     ))
-    (λ c κs. unfold repeat_code in let row_at = c.before.before.before.before.before.before.row_at in
+    (λ c κs. unfold repeat_code in let read-row = c.before.before.before.before.before.before.read-row in
     let start = c.before.before.before.before.before.before.before.before.before in
-    first _ (rest c.before.before.before.expression.ensures (rw (loop_code start.requires.1.0 row_at.ensures) at start.requires.1.1)))
+    first _ (rest c.before.before.before.expression.ensures (rw (loop_code start.requires.1.0 read-row.ensures) at start.requires.1.1)))
     (λ c. omega arith)
     (λ c. let take_condition = c.before.before.before.before.take-condition in let expression = c.before.before.before.before.before.before.before.before.expression in
-    let row_at = c.before.before.before.before.before.before.before.before.before.before.before.row_at in
+    let read-row = c.before.before.before.before.before.before.before.before.before.before.before.read-row in
     let start = c.before.before.before.before.before.before.before.before.before.before.before.before.before.before in
-    omega (arith, (body_room _ _ (rw (loop_code start.requires.1.0 row_at.ensures) at start.requires.1.1) expression.ensures take_condition.ensures).near))
+    omega (arith, (body_room _ _ (rw (loop_code start.requires.1.0 read-row.ensures) at start.requires.1.1) expression.ensures take_condition.ensures).near))
     (λ c κs. let take_condition = c.before.before.before.before.take-condition in let expression = c.before.before.before.before.before.before.before.before.expression in
-    let row_at = c.before.before.before.before.before.before.before.before.before.before.before.row_at in
+    let read-row = c.before.before.before.before.before.before.before.before.before.before.before.read-row in
     let start = c.before.before.before.before.before.before.before.before.before.before.before.before.before.before in
-    let n = (loop_names start.requires.1.0 row_at.ensures).1 in (
+    let n = (loop_names start.requires.1.0 read-row.ensures).1 in (
       omega (arith, n.earlier, start.requires.0),
-      (named start.requires.1.0 n, body_room _ _ (rw (loop_code start.requires.1.0 row_at.ensures) at start.requires.1.1) expression.ensures take_condition.ensures),
+      (named start.requires.1.0 n, body_room _ _ (rw (loop_code start.requires.1.0 read-row.ensures) at start.requires.1.1) expression.ensures take_condition.ensures),
     ))
     (λ c. let c8 = c.before.before.before.before.before.before.before.before in let c12 = c8.before.before.before.before in let c15 = c12.before.before.before in
     let c18 = c15.before.before.before in
     omega (
       arith,
-      (body_ahead _ _ (rw (loop_code c18.requires.1.0 c15.row_at.ensures) at c18.requires.1.1) c12.expression.ensures c8.take-condition.ensures
+      (body_ahead _ _ (rw (loop_code c18.requires.1.0 c15.read-row.ensures) at c18.requires.1.1) c12.expression.ensures c8.take-condition.ensures
           c.before.before.before.process.ensures).reach,
     ))
     (λ c κs. let c8 = c.before.before.before.before.before.before.before.before in let c12 = c8.before.before.before.before in let c15 = c12.before.before.before in
     let c18 = c15.before.before.before in
-    body_ahead _ _ (rw (loop_code c18.requires.1.0 c15.row_at.ensures) at c18.requires.1.1) c12.expression.ensures c8.take-condition.ensures
+    body_ahead _ _ (rw (loop_code c18.requires.1.0 c15.read-row.ensures) at c18.requires.1.1) c12.expression.ensures c8.take-condition.ensures
     c.before.before.before.process.ensures)
     (λ c κs.
     let c7 = c.before.before.before.before.before.before.before in let c12 = c7.before.before.before.before.before in let c16 = c12.before.before.before.before in
     let c19 = c16.before.before.before in let c22 = c19.before.before.before in
-    back_room _ _ (rw (loop_code c22.requires.1.0 c19.row_at.ensures) at c22.requires.1.1) c16.expression.ensures c12.take-condition.ensures c7.process.ensures
+    back_room _ _ (rw (loop_code c22.requires.1.0 c19.read-row.ensures) at c22.requires.1.1) c16.expression.ensures c12.take-condition.ensures c7.process.ensures
     c.before.before.before.jump_over.ensures)
     (λ c. let c6 = c.before.before.before.before.before.before in let c10 = c6.before.before.before.before in let c15 = c10.before.before.before.before.before in
     let c19 = c15.before.before.before.before in let c22 = c19.before.before.before in let c25 = c22.before.before.before in
-    kept (repeat_wrote _ _ (rw (loop_code c25.requires.1.0 c22.row_at.ensures) at c25.requires.1.1) c19.expression.ensures c15.take-condition.ensures
+    kept (repeat_wrote _ _ (rw (loop_code c25.requires.1.0 c22.read-row.ensures) at c25.requires.1.1) c19.expression.ensures c15.take-condition.ensures
     c10.process.ensures c6.jump_over.ensures c.before.before.jump_back.ensures))
     (λ c. let c6 = c.before.before.before.before.before.before in let c10 = c6.before.before.before.before in let c15 = c10.before.before.before.before.before in
     let c19 = c15.before.before.before.before in let c22 = c19.before.before.before in let c25 = c22.before.before.before in
-    rw (loop_code c25.requires.1.0 c22.row_at.ensures)
-    (repeat_wrote _ _ (rw (loop_code c25.requires.1.0 c22.row_at.ensures) at c25.requires.1.1) c19.expression.ensures c15.take-condition.ensures c10.process.ensures
+    rw (loop_code c25.requires.1.0 c22.read-row.ensures)
+    (repeat_wrote _ _ (rw (loop_code c25.requires.1.0 c22.read-row.ensures) at c25.requires.1.1) c19.expression.ensures c15.take-condition.ensures c10.process.ensures
     c6.jump_over.ensures c.before.before.jump_back.ensures)))
     λ t. single-lts.spec (single_calls t)
     (single_at t)
     single.Post
-    (λ c κs. search rules)
-    (λ c. rw (skip_code c.before.before.before.before.requires.1.0.0 c.before.row_at.ensures c.if1.true) none)
+    (λ c κs. c.before.before.requires.1.0.0.inside)
+    (λ c. rw (skip_code c.before.before.before.before.requires.1.0.0 c.before.read-row.ensures c.if1.true) none)
     (λ c κs. let start = c.before.before.before.before.before.before in
-    rw (stop_code start.requires.1.0.0 c.before.before.before.row_at.ensures c.before.if2.true) at start.requires.1.1)
+    rw (stop_code start.requires.1.0.0 c.before.before.before.read-row.ensures c.before.if2.true) at start.requires.1.1)
     (λ c. kept c.before.before.put.ensures)
-    (λ c. let if2 = c.before.before.before.before.if2 in let row_at = c.before.before.before.before.before.before.row_at in
+    (λ c. let if2 = c.before.before.before.before.if2 in let read-row = c.before.before.before.before.before.before.read-row in
     let start = c.before.before.before.before.before.before.before.before.before in
-    rw (stop_code start.requires.1.0.0 row_at.ensures if2.true) c.before.before.put.ensures)
-    (λ c κs. let row_at = c.before.before.before.before.row_at in let start = c.before.before.before.before.before.before.before in
-    (only start.requires.1.0.0 (kind_is start.requires.1.0.0 row_at.ensures c.before.if3.true), start.requires.1.1))
+    rw (stop_code start.requires.1.0.0 read-row.ensures if2.true) c.before.before.put.ensures)
+    (λ c κs. let read-row = c.before.before.before.before.read-row in let start = c.before.before.before.before.before.before.before in
+    (only start.requires.1.0.0 (kind_is start.requires.1.0.0 read-row.ensures c.before.if3.true), start.requires.1.1))
     (λ c. kept c.before.before.assign.ensures)
     (λ c. c.before.before.assign.ensures)
-    (λ c κs. let row_at = c.before.before.before.before.before.row_at in let start = c.before.before.before.before.before.before.before.before in
-    (only start.requires.1.0.0 (kind_is start.requires.1.0.0 row_at.ensures c.before.if4.true), start.requires.1.1))
+    (λ c κs. let read-row = c.before.before.before.before.before.read-row in let start = c.before.before.before.before.before.before.before.before in
+    (only start.requires.1.0.0 (kind_is start.requires.1.0.0 read-row.ensures c.before.if4.true), start.requires.1.1))
     (λ c. kept c.before.before.assign-element.ensures)
     (λ c. c.before.before.assign-element.ensures)
-    (λ c κs. let row_at = c.before.before.before.before.before.before.row_at in let start = c.before.before.before.before.before.before.before.before.before in
-    (omega (arith, start.requires.0), (only start.requires.1.0.0 (kind_is start.requires.1.0.0 row_at.ensures c.before.if5.true), start.requires.1.1)))
+    (λ c κs. let read-row = c.before.before.before.before.before.before.read-row in let start = c.before.before.before.before.before.before.before.before.before in
+    (omega (arith, start.requires.0), (only start.requires.1.0.0 (kind_is start.requires.1.0.0 read-row.ensures c.before.if5.true), start.requires.1.1)))
     (λ c. kept c.before.before.conditional.ensures)
     (λ c. c.before.before.conditional.ensures)
-    (λ c κs. let row_at = c.before.before.before.before.before.before.row_at in let start = c.before.before.before.before.before.before.before.before.before in
-    (omega (arith, start.requires.0), (only start.requires.1.0.0 (kind_is start.requires.1.0.0 row_at.ensures (last_kind t c.before)), start.requires.1.1)))
+    (λ c κs. let read-row = c.before.before.before.before.before.before.read-row in let start = c.before.before.before.before.before.before.before.before.before in
+    (omega (arith, start.requires.0), (only start.requires.1.0.0 (kind_is start.requires.1.0.0 read-row.ensures (last_kind t c.before)), start.requires.1.1)))
     (λ c. kept c.before.before.repeat.ensures)
     (λ c. c.before.before.repeat.ensures)

@@ -23,7 +23,7 @@ accept_spec =
     let q = start.requires.1.0 in let p = start.requires.1.1 in let e = sym p.rows_are in (
       subst (λ (k : ℕ). 0 < k) e (some_row q),
       (
-        subst (λ (k : ℕ). WellProcess a.rows.now (k - 1)) e (well_table q a.rows.now p.sound p.holds),
+        subst (λ (k : ℕ). WellProcess a.rows.now (k - 1)) e (well_table q a.rows.now p.sound p.holds (omega (arith, start.requires.0, p.fits.rows, p.fits.few))),
         subst (λ (k : ℕ). Room a.code.now 0 (image_code (process_at a.rows.now (k - 1)))) e
             (image_room q a.rows.now p.sound p.holds p.fits.in_code (omega (arith, p.fits.small))),
       ),

@@ -66,9 +66,11 @@ fn check_run(accepted: &Accepted<'_>, random: &mut Random) -> Option<u32> {
     let words = starting_words(random, accepted.program.data as usize);
     let mut state = State::start(&accepted.program, &words);
     state.run(5_000);
-    // To begin a row takes at least a move, so fuel for as many moves is enough.
+    // A row worked out takes at least a move, so fuel for as many moves is enough.
     let fuel = 5_000;
-    let mut interpreter = Interpreter { rows: &accepted.rows, words, accesses: Vec::new(), fuel };
+    let counts_tests = false;
+    let mut interpreter =
+        Interpreter { rows: &accepted.rows, words, accesses: Vec::new(), fuel, counts_tests };
     let end = interpreter.run();
     if state.end.is_some() {
         assert_eq!(state.end, end);

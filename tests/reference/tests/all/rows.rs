@@ -13,8 +13,10 @@ pub struct Interpreter<'t> {
     pub rows: &'t [[u32; 4]],
     pub words: Vec<u32>,
     pub accesses: Vec<Access>,
-    /// How many rows are begun at most, a while's again at each test.
+    /// How many rows are worked out at most.
     pub fuel: usize,
+    /// Whether a while's row counts again at each test.
+    pub counts_tests: bool,
 }
 
 impl Interpreter<'_> {
@@ -102,7 +104,9 @@ impl Interpreter<'_> {
             [14, condition, body, 0] => {
                 while self.expression(condition)? != 0 {
                     self.process(body)?;
-                    self.fetch(row)?;
+                    if self.counts_tests {
+                        self.fetch(row)?;
+                    }
                 }
                 Ok(())
             }

@@ -24,7 +24,9 @@ const LIMIT: u64 = 2_000;
 fn by_recursion(table: &[u32], memory: &[u32], limit: u64) -> Walk {
     let rows = rows(table);
     let fuel = limit as usize;
-    let mut interpreter = Interpreter { rows: &rows, words: memory.to_vec(), accesses: Vec::new(), fuel };
+    let counts_tests = true;
+    let mut interpreter =
+        Interpreter { rows: &rows, words: memory.to_vec(), accesses: Vec::new(), fuel, counts_tests };
     let end = interpreter.run();
     let Interpreter { words, accesses, fuel, .. } = interpreter;
     let (status, number) = end.map_or((0, 0), |end| (1, end as u32));

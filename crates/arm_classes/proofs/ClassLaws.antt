@@ -1,7 +1,7 @@
 -- Every pair of halfwords is exactly one of three: an instruction of the list, undefined or unpredictable, or of a class. Laws; rests on Classes and on the decoder's table.
 use Rattle.std.proofs.Math.Path.{◌≡◌, refl, sym}
 use Rattle.std.proofs.Common.{ap, ◌∙◌, lit<, ltb-false}
-use Rattle.std.specs.Prelude.{true, false, List, [], ◌∷◌, ℕ, ◌+◌, ◌≤◌, ◌<◌, ltb}
+use Rattle.std.specs.Prelude.{true, false, ℕ, ◌+◌, ◌≤◌, ◌<◌, ltb}
 use Rattle.std.proofs.Math.Bool.{and-false}
 use native.Mathlib.Omega.{arith}
 use Rattle.arm_word.specs.ChoiceLaws.{by_test}
@@ -13,9 +13,9 @@ use Rattle.arm_encoding.specs.EncodingLaws.{known_cases}
 use Rattle.arm_encoding.specs.declared.Instr.{Instr}
 use Rattle.arm_encoding.specs.declared.Decoded.{Decoded}
 use Rattle.arm_encoding.specs.declared.Decoded.TheVariants.{Known, Unknown}
-use Rattle.arm_classes.specs.declared.Unlisted.TheVariants.{Undefined, Unsupported}
 use Rattle.arm_classes.specs.Classes.{lines, class_of, Part, none, rows, pair_defined, defines, defined, classify_of}
 use Rattle.arm_classes.specs.ClassRows.{in_row}
+use Rattle.arm_classes.specs.Told.{met, Told, ours, undefined, unsupported}
 
 -- ── one row ──
 
@@ -50,10 +50,6 @@ listed_apart h k i b d =
         some z = let u = in_none_unknown h z in let x : ◌≡◌ {A = ℕ} 0 1 = cc in omega arith
 
 -- ── what is outside the list ──
-
--- the classes that can be met: 4, 6, 7 and 12 are taken whole
-abbrev pub met : List ℕ
-met = 1 ∷ 2 ∷ 3 ∷ 5 ∷ 8 ∷ 9 ∷ 10 ∷ 11 ∷ 13 ∷ []
 
 -- behind the table
 no_form_behind : (h : ℕ) → 0xF000 ≤ h → h < 65536 → find table h ≡ Unknown
@@ -101,15 +97,6 @@ module _ (h k : ℕ) (b : h < 65536) (u : decode_of h k ≡ Unknown) where
 class_range : (h : ℕ) → (1 ≤ class_of h) × (class_of h ≤ 13)
 unfolding lines every
 class_range h = bounds 1 13 (class_of h) (passes (from_to 1 13) 13 lines h refl refl)
-
--- what two halfwords are: one of these, and no two of them, whose equations exclude each other
-pub data Told (h k : ℕ) : Type 0 where
-  -- an instruction of the list, which no row calls good Armv6-M outside it
-  ours : (i : Instr) → decode_of h k ≡ Known i → defined h k ≡ false → Told h k
-  -- 22
-  undefined : decode_of h k ≡ Unknown → classify_of h k ≡ Undefined → Told h k
-  -- 26 with this class, which is none of the four that are taken whole
-  unsupported : (class : ℕ) → decode_of h k ≡ Unknown → classify_of h k ≡ Unsupported class → 1 ≤ class → class ≤ 13 → listed met class ≡ true → Told h k
 
 pub told_apart : (h k : ℕ) → h < 65536 → Told h k
 unfolding classify_of
