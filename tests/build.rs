@@ -1,4 +1,4 @@
-// The archives of the proved functions: `rt staticlib` of each name writes them.
+// The archives of the proved functions: `tools/archives` writes them.
 fn main() {
     let folder = format!("{}/../target/staticlib", env!("CARGO_MANIFEST_DIR"));
     println!("cargo:rustc-link-search=native={folder}");

@@ -1,7 +1,7 @@
 -- What is known of the bytes that were read. Laws; assumes nothing.
 use Rattle.std.specs.Prelude.{◌≡◌, List, ℕ}
 use Rattle.std.proofs.Common.{subst}
-use Rattle.io.specs.Counts.{IsPrefixLen}
+use Rattle.std.specs.Counts.{IsPrefixLen}
 use Rattle.program_console.specs.declared.Input.{Input}
 use Rattle.program_console.specs.declared.Input.TheVariants.{Bytes}
 use Rattle.program_console.specs.Input.{Within}

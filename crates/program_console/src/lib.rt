@@ -2,38 +2,42 @@
 //
 // No contract can say which bytes the system hands over or takes. Trusted here, and tested by the programs' stored outputs: that
 // `read` leaves the input's first bytes, in order, at the front of the buffer, and fails exactly where a read of the system does; that
-// `write` answers true exactly where the system took every byte, in order. A call that a signal interrupts counts as failed: the
-// programs have no handlers, so none does. Writing to a pipe that nobody reads ends the process, as the system has it.
+// `write` answers Ok exactly where the system took every byte, in order. A read that a signal interrupts counts as failed: the
+// programs have no handlers, so none does.
+#![tactic(auto)]
+
 ghost use Rattle.program_console.specs.Input.{Within};
 
-use libc::{STDIN_FILENO, STDOUT_FILENO};
+use std::io;
+use std::io::{ErrorKind, Read};
+use std::process::ExitCode;
 
-// How many bytes were read, or that a read failed.
+// How many bytes were read, or why a read failed.
 #[derive(Drop)]
 pub enum Input {
     Bytes(usize),
-    Failed,
+    Failed(io::Error),
 }
 
 // One read; no bytes at the end of the input.
-fn read_once(buffer: &mut [u8]) -> Input
+fn read_once(reader: &mut impl Read, buffer: &mut [u8]) -> Input
     ensures { Within result buffer.new }
 {
-    let got = libc::read(STDIN_FILENO, buffer);
-    if got < 0 {
-        return Input::Failed;
+    match reader.read(buffer) {
+        Ok(n) => Input::Bytes(n),
+        Err(e) => Input::Failed(e),
     }
-    Input::Bytes(io::count(got, buffer))
 }
 
 // Standard input to the front of a lent buffer, until this is full or the input ends.
-pub fn read(buffer: &mut [u8]) -> Input
+pub fn read(rt: &impl io::Input, buffer: &mut [u8]) -> Input
     ensures { Within result buffer.new }
 {
+    let mut reader = rt.reader();
     let mut done = 0;
     while done < buffer.len() {
-        match read_once(&mut buffer[done..]) {
-            Input::Failed => return Input::Failed,
+        match read_once(&mut reader, &mut buffer[done..]) {
+            Input::Failed(e) => return Input::Failed(e),
             Input::Bytes(n) => {
                 if n == 0 {
                     return Input::Bytes(done);
@@ -45,12 +49,20 @@ pub fn read(buffer: &mut [u8]) -> Input
     Input::Bytes(done)
 }
 
-// A text to standard output: whether all of it was taken.
-pub fn write(text: &[u8]) -> bool {
-    io::write_all(STDOUT_FILENO, text)
+// A text to standard output: whether all of it was taken, or why not.
+pub fn write(rt: &impl Print, text: &[u8]) -> io::Result<()> {
+    rt.write_all(text)
 }
 
-// A line on standard error: what failed, and the system's text for why.
-pub fn fail(what: &[u8]) {
-    os::fail(what);
+// The exit status that a shell gives a program which SIGPIPE ended.
+const NOBODY_READS: u8 = 128 + 13;
+
+// A line on standard error: what failed, and the system's text for why; the exit status stays 0. Of an output that nobody reads nothing is told:
+// writing to it used to end the process by SIGPIPE, which the runtime holds back, so the exit status is the one that a shell gave then.
+pub fn fail(rt: &impl Eprint, what: &str, why: io::Error) -> ExitCode {
+    if why.kind() == ErrorKind::BrokenPipe {
+        return ExitCode::from(NOBODY_READS);
+    }
+    let _ = eprintln!(rt; "{what}: {why}");
+    ExitCode::SUCCESS
 }

@@ -3,35 +3,44 @@
 // Proved: what is handed to `program_console::write` is the report, whole, of the bytes that `program_console::read` counted (what `write` requires).
 // Trusted, and held to the stored output: `program_console`, and that `main` reads into 16,385 bytes and calls `answer` once, or names on
 // standard error what failed.
+#![tactic(auto)]
+
 ghost use Rattle.std.specs.Prelude.{◌≡◌, ◌≤◌, length};
 ghost use Rattle.text_report.specs.Report.{report_of, report_limit};
 
 use program_console::Input;
+use std::io;
+use std::process::ExitCode;
 
-// Writes the report of a source, and tells whether all of it was taken. The source is there for the contract alone.
-fn write(source: &[u8], text: &[u8]) -> bool
+const NO_INPUT: &str = "report: standard input could not be read";
+
+const NO_OUTPUT: &str = "report: standard output could not be written";
+
+// Writes the report of a source: all of it was taken, or why not. The source is there for the contract alone.
+fn write(rt: &impl Print, source: &[u8], text: &[u8]) -> io::Result<()>
     requires { text.now ≡ report_of source.now }
 {
-    program_console::write(text)
+    program_console::write(rt, text)
 }
 
 // The text goes through a buffer with room for every report.
-fn answer(source: &[u8], text: &mut [u8]) -> bool
+fn answer(rt: &impl Print, source: &[u8], text: &mut [u8]) -> io::Result<()>
     requires { report_limit ≤ length text.old }
 {
     let end = text_buffer::append_line(text, 0, text_report::report(source));
-    write(source, &text[..end])
+    write(rt, source, &text[..end])
 }
 
-fn main() {
+fn main(rt: HostRuntime) -> ExitCode {
     // One byte more than a source may have, so that a longer one is seen to be longer.
     let mut source = [0u8; 16385];
-    let Input::Bytes(n) = program_console::read(&mut source) else {
-        program_console::fail(b"report: standard input could not be read");
-        return;
+    let n = match program_console::read(&rt, &mut source) {
+        Input::Bytes(n) => n,
+        Input::Failed(why) => return program_console::fail(&rt, NO_INPUT, why),
     };
     let mut text = [0u8; 128];
-    if !answer(&source[..n], &mut text) {
-        program_console::fail(b"report: standard output could not be written");
+    match answer(&rt, &source[..n], &mut text) {
+        Ok(()) => ExitCode::SUCCESS,
+        Err(why) => program_console::fail(&rt, NO_OUTPUT, why),
     }
 }

@@ -1,118 +1,117 @@
 // Document 01's sources, starred and others, and some near them, from their bytes: status, place, tokens, rows, data words, N and image bytes.
-use libc::STDOUT_FILENO;
 use translate_source::Translation;
 
-fn text(s: &[u8]) {
-    io::write_all(STDOUT_FILENO, s);
+fn text(rt: &impl Print, s: &[u8]) {
+    let _ = rt.write_all(s);
 }
 
-fn number(n: u32) {
-    text(b" ");
-    io::print_decimal(STDOUT_FILENO, n as u64);
+fn number(rt: &impl Print, n: u32) {
+    text(rt, b" ");
+    let _ = print!(rt; "{n}");
 }
 
 // Status, place, tokens, rows, data words, N and image bytes.
-fn answer(t: Translation) {
-    text(b" ->");
-    number(t.status);
-    number(t.place);
-    number(t.tokens);
-    number(t.rows);
-    number(t.data);
-    number(t.depth);
-    number(t.code);
+fn answer(rt: &impl Print, t: Translation) {
+    text(rt, b" ->");
+    number(rt, t.status);
+    number(rt, t.place);
+    number(rt, t.tokens);
+    number(rt, t.rows);
+    number(rt, t.data);
+    number(rt, t.depth);
+    number(rt, t.code);
 }
 
-fn case(source: &[u8]) {
+fn case(rt: &impl Print, source: &[u8]) {
     let mut table = [0u32; 4096];
     let mut code = [0u8; 49408];
     let t = translate_source::translate(source, &mut table, &mut code);
-    text(source);
-    answer(t);
-    text(b"\n");
+    text(rt, source);
+    answer(rt, t);
+    text(rt, b"\n");
 }
 
-fn word(words: &[u32], at: usize) {
+fn word(rt: &impl Print, words: &[u32], at: usize) {
     if at < words.len() {
-        number(words[at]);
+        number(rt, words[at]);
     }
 }
 
-fn byte_number(n: u8) {
-    number(n as u32);
+fn byte_number(rt: &impl Print, n: u8) {
+    number(rt, n as u32);
 }
 
-fn byte(bytes: &[u8], at: usize) {
+fn byte(rt: &impl Print, bytes: &[u8], at: usize) {
     if at < bytes.len() {
-        byte_number(bytes[at]);
+        byte_number(rt, bytes[at]);
     }
 }
 
 // An update of a rule, into the rule's buffers: the answer, then the first row and the first halfword that stand there.
-fn update(rule: &[u8], source: &[u8]) {
+fn update(rt: &impl Print, rule: &[u8], source: &[u8]) {
     let mut table = [7u32; 4096];
     let mut code = [7u8; 49408];
     translate_source::translate(rule, &mut table, &mut code);
     let t = translate_source::translate(source, &mut table, &mut code);
-    text(source);
-    text(b" instead of ");
-    text(rule);
-    answer(t);
-    text(b", then");
-    word(&table, 0);
-    word(&table, 1);
-    word(&table, 2);
-    word(&table, 3);
-    byte(&code, 0);
-    byte(&code, 1);
-    text(b"\n");
+    text(rt, source);
+    text(rt, b" instead of ");
+    text(rt, rule);
+    answer(rt, t);
+    text(rt, b", then");
+    word(rt, &table, 0);
+    word(rt, &table, 1);
+    word(rt, &table, 2);
+    word(rt, &table, 3);
+    byte(rt, &code, 0);
+    byte(rt, &code, 1);
+    text(rt, b"\n");
 }
 
-fn refusals_and_limits() {
-    case(b"var x; x := 2 + 3");
-    case(b"");
-    case(b"x := 1");
-    case(b"{skip;}");
-    case(b"skip");
-    case(b"skip;");
-    case(b"array a[0]; skip");
-    case(b"array a[1]; skip");
-    case(b"array a[8192]; skip");
-    case(b"array a[8193]; skip");
-    case(b"array a[true]; skip");
-    case(b"array a[3]; skip");
-    case(b"var nnnnnnnnnnnnnnnnnnnnnnnnnnnnnnnn; skip");
-    case(b"var nnnnnnnnnnnnnnnnnnnnnnnnnnnnnnnnn; skip");
-    case(b"var x; x := x - x - x");
-    case(b"var x; x := x + x + x");
-    case(b"var x; x := x + x * x");
+fn refusals_and_limits(rt: &impl Print) {
+    case(rt, b"var x; x := 2 + 3");
+    case(rt, b"");
+    case(rt, b"x := 1");
+    case(rt, b"{skip;}");
+    case(rt, b"skip");
+    case(rt, b"skip;");
+    case(rt, b"array a[0]; skip");
+    case(rt, b"array a[1]; skip");
+    case(rt, b"array a[8192]; skip");
+    case(rt, b"array a[8193]; skip");
+    case(rt, b"array a[true]; skip");
+    case(rt, b"array a[3]; skip");
+    case(rt, b"var nnnnnnnnnnnnnnnnnnnnnnnnnnnnnnnn; skip");
+    case(rt, b"var nnnnnnnnnnnnnnnnnnnnnnnnnnnnnnnnn; skip");
+    case(rt, b"var x; x := x - x - x");
+    case(rt, b"var x; x := x + x + x");
+    case(rt, b"var x; x := x + x * x");
 }
 
-fn others() {
-    case(b"{ |c| }");
-    case(b"skip |c|");
-    case(b"var x; x := |c| 1");
-    case(b"|c| skip");
-    case(b"val a = a; skip");
-    case(b"var x; var x; skip");
-    case(b"array a[b]; skip");
-    case(b"var x; array a[8192]; skip");
-    case(b"array a[4]; a := 1");
-    case(b"array a[4]; a[4] := 1");
-    case(b"var x; if x < 3 then x := 1 else stop");
-    case(b"var x; while x do {skip; x := 0}");
-    case(b"proc p; skip");
-    case(b"var x; x := ' '");
-    case(b"var x; x := '*''");
-    case(b"var x; x := 4294967296");
-    case(b"var x; x := #FFFFFFFF");
-    case(b"val k = 3; var x; k := x");
+fn others(rt: &impl Print) {
+    case(rt, b"{ |c| }");
+    case(rt, b"skip |c|");
+    case(rt, b"var x; x := |c| 1");
+    case(rt, b"|c| skip");
+    case(rt, b"val a = a; skip");
+    case(rt, b"var x; var x; skip");
+    case(rt, b"array a[b]; skip");
+    case(rt, b"var x; array a[8192]; skip");
+    case(rt, b"array a[4]; a := 1");
+    case(rt, b"array a[4]; a[4] := 1");
+    case(rt, b"var x; if x < 3 then x := 1 else stop");
+    case(rt, b"var x; while x do {skip; x := 0}");
+    case(rt, b"proc p; skip");
+    case(rt, b"var x; x := ' '");
+    case(rt, b"var x; x := '*''");
+    case(rt, b"var x; x := 4294967296");
+    case(rt, b"var x; x := #FFFFFFFF");
+    case(rt, b"val k = 3; var x; k := x");
 }
 
-fn main() {
-    refusals_and_limits();
-    others();
-    update(b"var x; x := 2 + 3", b"x := 1");
-    update(b"var x; x := 2 + 3", b"var x; x := 2 +");
-    update(b"var x; x := 2 + 3", b"array a[3]; skip");
+fn main(rt: HostRuntime) {
+    refusals_and_limits(&rt);
+    others(&rt);
+    update(&rt, b"var x; x := 2 + 3", b"x := 1");
+    update(&rt, b"var x; x := 2 + 3", b"var x; x := 2 +");
+    update(&rt, b"var x; x := 2 + 3", b"array a[3]; skip");
 }

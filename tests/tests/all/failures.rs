@@ -1,4 +1,4 @@
-//! Where reading or writing fails: the programs (`target/bin`) and their wrappers (`bin`) give no verdict after a
+//! Where reading or writing fails: the programs (`crates/program_NAME/out`) and their wrappers (`bin`) give no verdict after a
 //! failed read, tell of it in one line on standard error that names the program, and write nothing more after a failed
 //! write. A wrapper's exit status is then 1, and 0 on every source, refused ones too.
 
@@ -212,7 +212,7 @@ fn wrong_tellers_are_noticed() {
 
 /// A folder like the repository's, with the wrapper in it.
 fn like_the_repository(folder: &Path, name: &str) -> PathBuf {
-    create_dir_all(folder.join("target/bin")).expect("a folder");
+    create_dir_all(built(folder, name).parent().expect("a folder")).expect("a folder");
     create_dir_all(folder.join("bin")).expect("a folder");
     let wrapper = folder.join("bin").join(name);
     let copied = Command::new("cp").arg(repository().join("bin").join(name)).arg(&wrapper).status();
@@ -352,9 +352,7 @@ fn not_built(folder: &Path, name: &str) {
     };
     let (status, said) = run(&[]);
     assert_eq!(status, Some(127));
-    assert!(
-        said.contains(&format!("rt check program_{name}")) && said.contains(&*folder.to_string_lossy()),
-        "{said}"
-    );
+    let place = folder.join(format!("crates/program_{name}"));
+    assert!(said.contains("rt run") && said.contains(&*place.to_string_lossy()), "{said}");
     assert_eq!(run(&["a.x"]), (Some(2), format!("usage: {name} < source\n")));
 }

@@ -30,9 +30,9 @@ fn repository() -> PathBuf {
     Path::new(env!("CARGO_MANIFEST_DIR")).parent().expect("the repository").to_path_buf()
 }
 
-/// A program that `rt check` built, in a repository.
+/// A program that `rt ci` or `rt run` built, in a repository.
 fn built(repository: &Path, name: &str) -> PathBuf {
-    repository.join("target/bin").join(format!("program_{name}"))
+    repository.join(format!("crates/program_{name}/out/program_{name}"))
 }
 
 /// A folder for a test's own files: tests run at the same time, each in a thread that has its name.

@@ -1,4 +1,4 @@
-//! The built programs (`target/bin`), run as a user runs them, against the second rendering:
+//! The built programs (`crates/program_NAME/out`), run as a user runs them, against the second rendering:
 //! every byte of standard output. Standard error stays empty, the exit status is 0.
 
 use crate::{built, by_status, print, repository, scratch};
@@ -26,7 +26,7 @@ struct Built {
 impl Built {
     fn new(name: &str) -> Built {
         let program = built(&repository(), name);
-        assert!(program.exists(), "{} is not built: rt check program_{name}", program.display());
+        assert!(program.exists(), "{} is not built: rt run in its crate", program.display());
         Built { program, input: scratch("input").join("source.x"), sources: Cell::new(0) }
     }
 
