@@ -6,7 +6,7 @@ use borrow.Author.Tests.{lt-ltb, le-ltb, le-leb, lt-leb}
 use Rattle.std.specs.Int.Count.{count_trailing_zeros, count_leading_zeros}
 use Rattle.arm_encoding.specs.declared.Instr.{Instr}
 use Rattle.x_program.specs.Tree as tree
-use Rattle.x_program.specs.Core.{Process, core_process, core_list}
+use Rattle.x_program.specs.Core.{core_process, core_list}
 use Rattle.translate_rules.specs.InstructionBytes.{bytes_of, bytes, size}
 use Rattle.translate_rules.specs.Constant.{byte_constant, span_constant, long_constant, load_constant}
 use Rattle.translate_rules.specs.ImageCode.{process_code}

@@ -1,5 +1,5 @@
 -- The image fits its room, 48 x tokens + 256 bytes: at most four bytes an instruction, at most twelve instructions a token. Laws; they rest on ImageCode and TokenCount.
-use Rattle.std.specs.Prelude.{Bool, true, false, List, [], ◌∷◌, ◌++◌, ℕ, ◌+◌, ◌*◌, ◌≤◌, length, eqb, ltb}
+use Rattle.std.specs.Prelude.{Bool, true, false, List, [], ◌∷◌, ◌++◌, ℕ, ◌*◌, ◌≤◌, length, eqb, ltb}
 use Rattle.std.proofs.Common.{arith, length-append}
 use Rattle.arm_word.specs.Choice.{pick}
 use Rattle.x_program.specs.Layout.{code_room}

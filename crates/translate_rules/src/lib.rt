@@ -1,1 +1,3 @@
+#![tactic(auto)]
+
 // The translation rules: see specs/.
