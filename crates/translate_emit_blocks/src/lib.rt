@@ -1,5 +1,7 @@
 // The blocks of the translation rules, but for the operators', written to a buffer.
 // Every function takes the place to write at and returns the place after what it wrote.
+#![tactic(auto)]
+
 ghost use Rattle.std.specs.Prelude.{[], ◌∷◌, ◌+◌, ◌-◌, ◌≤◌};
 ghost use Rattle.translate_rules.specs.Blocks.{jump_over, jump_back};
 ghost use Rattle.translate_rules.specs.Blocks.{push_constant, push_variable, check_subscript, load_element, assign_variable, store_element, take_condition};

@@ -1,5 +1,7 @@
 // Instructions written to a buffer one at a time, and those that load a constant.
 // Every function takes the place to write at and returns the place after what it wrote.
+#![tactic(auto)]
+
 ghost use Rattle.std.specs.Prelude.{[], ◌∷◌};
 ghost use Rattle.translate_rules.specs.Constant.{load_constant};
 ghost use Rattle.translate_emit_instructions.specs.Write.{Room, Wrote};

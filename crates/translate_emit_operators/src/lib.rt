@@ -1,5 +1,7 @@
 // The instructions of an operator written to a buffer.
 // Every function takes the place to write at and returns the place after what it wrote.
+#![tactic(auto)]
+
 ghost use Rattle.std.specs.Prelude.{[], ◌∷◌};
 ghost use Rattle.arm_encoding.specs.declared.Instr.TheVariants.{Subr, Beq, Movi};
 ghost use Rattle.translate_rules.specs.Blocks.{work_monadic_code, work_diadic_code, less_than, far_shift, diadic_instructions};
