@@ -48,11 +48,11 @@ tail_at (f ▸ a) = a
 
 pub first_at : {code : List ℕ} {pc : ℕ} (xs ys : List Instr) → At code pc (xs ++ ys) → At code pc xs
 first_at [] ys a = nil
-first_at (x ∷ xs) ys (f ▸ a) = f ▸ first_at xs ys a
+first_at {code = code} {pc = pc} (x ∷ xs) ys (f ▸ a) = f ▸ first_at {code = code} {pc = pc + width x} xs ys a
 
 pub rest_at : {code : List ℕ} {pc : ℕ} (xs ys : List Instr) → At code pc (xs ++ ys) → At code (advance xs pc) ys
 rest_at [] ys a = a
-rest_at (x ∷ xs) ys (f ▸ a) = rest_at xs ys a
+rest_at {code = code} {pc = pc} (x ∷ xs) ys (f ▸ a) = rest_at {code = code} {pc = pc + width x} xs ys a
 
 pub advance_append : (xs ys : List Instr) (pc : ℕ) → advance (xs ++ ys) pc ≡ advance ys (advance xs pc)
 advance_append [] ys pc = refl

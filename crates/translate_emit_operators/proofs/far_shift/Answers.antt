@@ -1,0 +1,12 @@
+-- `translate_emit_operators::far_shift` meets its contract: it is one write, of the rule's own instructions.
+-- Assumes nothing.
+use Rattle.translate_rules.specs.Blocks.{far_shift}
+use Rattle.translate_emit_operators.proofs.far_shift.Goals as goal
+
+pub put_four-requires : goal.put_four-requires
+unfolding far_shift
+put_four-requires c = c.requires
+
+pub returns : goal.returns
+unfolding far_shift
+returns c = c.put_four.ensures
