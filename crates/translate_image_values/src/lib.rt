@@ -1,4 +1,6 @@
 // The code of the expressions and assignments of a syntax table, from its rows.
+#![tactic(auto)]
+
 ghost use Rattle.std.specs.Prelude.{◌≡◌, ◌+◌, ◌*◌, ◌≤◌, length};
 ghost use Rattle.x_program.specs.Layout as layout;
 ghost use Rattle.x_program.specs.Layout.{row_words};
