@@ -1,4 +1,6 @@
 // The image of a syntax table: a walk over its rows, from the last one down.
+#![tactic(auto)]
+
 ghost use Rattle.std.specs.Prelude.{◌-◌, ◌<◌};
 ghost use Rattle.x_program.specs.Layout as layout;
 ghost use Rattle.x_program.specs.Table.{process_at};
