@@ -1,7 +1,7 @@
 -- The walker's working arrays as a point of the table's run. Definitions and laws; rests on the table's run and on what a walk hands back.
-use Rattle.std.specs.Prelude.{◌≡◌, ℕ, zero, suc, ◌+◌, ◌-◌, ◌*◌, ◌/◌, ◌%◌, ◌^◌, ◌<◌, ◌≤◌, Bool, true, false, List, [], ◌∷◌, ◌++◌, length, ◌==◌, slice_index, slice_set}
+use Rattle.std.specs.Prelude.{◌≡◌, ℕ, zero, suc, ◌+◌, ◌-◌, ◌*◌, ◌/◌, ◌%◌, ◌^◌, ◌<◌, ◌≤◌, List, [], ◌∷◌, ◌++◌, length, ◌==◌, slice_index, slice_set}
 use Rattle.std.proofs.Math.Path.{refl, ap, ap₂}
-use Rattle.std.proofs.Common.{sym, ◌∙◌, arith, add-one, length-set, length-append, get_or-set_same, get_or-set_other}
+use Rattle.std.proofs.Common.{◌∙◌, arith, add-one, length-set, length-append, get_or-set_same, get_or-set_other}
 use Rattle.arm_word.specs.Choice.{pick}
 use Rattle.arm_word.specs.Access.{Access}
 use Rattle.x_meaning.specs.SourceRun.{End, finish, stopped, bad_subscript, top, rest}

@@ -1,4 +1,6 @@
 // What a walk works with: what it is at, the list of things to do, the pile of words, and the lent buffer for accesses.
+#![tactic(auto)]
+
 pub mod access;
 pub mod item;
 pub mod mode;

@@ -3,7 +3,7 @@ use Rattle.std.specs.Prelude.{◌≡◌, Bool, true, false, ◌&&◌, List, leng
 use Rattle.std.proofs.Math.Path.{refl, sym}
 use Rattle.std.proofs.Common.{ap, ◌∙◌, arith, add-one}
 use Rattle.std.proofs.Math.Bool.{and-false}
-use Prim.Native.Nat.{ℕ, zero, suc, ◌+◌, ◌-◌, ◌*◌, ◌%◌, ◌≤◌, ◌<◌}
+use Prim.Native.Nat.{ℕ, zero, suc, ◌+◌, ◌*◌, ◌%◌, ◌≤◌, ◌<◌}
 use Rattle.std.proofs.Math.Dec.{ltb}
 use borrow.Author.Tests.{eq-eqb, ne_eqb, le-leb, lt-leb, ltb-true, ltb-false}
 use Rattle.arm_word.specs.Choice.{pick}
@@ -13,10 +13,9 @@ use Rattle.arm_word.specs.RangeLaws.{bounds}
 use Rattle.x_program.specs.Layout.{row_words}
 use Rattle.x_program.specs.Layout as layout
 use Rattle.x_program.specs.Table.{word, row_in}
-use Rattle.x_program.specs.ValidTable.{shape, data_before, declared_in, fits, row_fits, rows_fit, rows_in, data_in, valid}
+use Rattle.x_program.specs.ValidTable.{shape, data_before, declared_in, row_fits, rows_fit, rows_in, data_in, valid}
 use Rattle.x_program.specs.ValidTableLaws.{row_words_fit}
 use Rattle.x_program.specs.declared.table.Row.{Row}
-use Rattle.walker_check.specs.declared.Checked.{Checked}
 use Rattle.walker_check.specs.declared.Checked.TheVariants.{Refused, Data}
 use Rattle.walker_check.specs.TableCheck.{checked, words_fit, words_of, counted, ends_in_process}
 

@@ -1,4 +1,6 @@
 // Request 2026-01's number 36: whether a syntax table can be run, and its words of data.
+#![tactic(auto)]
+
 ghost use Rattle.std.specs.Prelude.{◌≡◌, ◌≤◌};
 ghost use Rattle.arm_word.specs.Ranges.{from_to};
 ghost use Rattle.x_program.specs.ValidTable as rules;

@@ -1,4 +1,6 @@
 // The operators of a syntax table, worked out on words.
+#![tactic(auto)]
+
 ghost use Rattle.std.specs.Prelude.{◌≡◌};
 ghost use Rattle.arm_word.specs.Word as word;
 ghost use Rattle.x_program.specs.Table.{monadic_of, diadic_of};
