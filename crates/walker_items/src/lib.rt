@@ -1,4 +1,6 @@
 // What a walk does between two rows: the first thing to do, by its number.
+#![tactic(auto)]
+
 ghost use Rattle.std.specs.Prelude.{◌≡◌, List, ℕ, ◌<◌, ◌≤◌};
 ghost use Rattle.x_program.specs.Table as tables;
 ghost use Rattle.x_meaning.specs.TableRun as meaning;
