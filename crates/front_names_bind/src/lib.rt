@@ -1,4 +1,6 @@
 // The start of checking: the specifications' names into the name table, their rows into the syntax table; or the first complaint.
+#![tactic(auto)]
+
 ghost use Rattle.std.specs.Prelude.{◌≡◌, List, [], ℕ, ◌+◌, ◌-◌, ◌<◌, ◌≤◌, length, set};
 ghost use Rattle.front_names_table.specs.View.{arrays, text_at};
 ghost use Rattle.x_grammar.specs.Grammar.{Specification, Process, text_process, text_specifications};
@@ -12,7 +14,7 @@ use front_read_expressions::{kind_at, put};
 use x_spelling::kind;
 
 // The refusal's number and place; or how many names, rows and words are declared.
-#[derive(Drop)]
+#[derive(Clone, Copy)]
 pub enum Progress {
     Refused(u32, u32),
     Declared(usize, usize, u32),

@@ -1,4 +1,6 @@
 // Resolves the raw rows in place, and keeps the least complaint about the names in them.
+#![tactic(auto)]
+
 ghost use Rattle.std.specs.Prelude.{◌≡◌, ℕ, ◌+◌, ◌-◌, ◌*◌, ◌<◌, ◌≤◌, List, get_or};
 ghost use Rattle.std.proofs.lemmas.List.Edits.{sets};
 ghost use Rattle.x_program.specs.Layout.{row_words};
@@ -16,7 +18,7 @@ use x_program::row;
 use x_tokens::refusal;
 
 // The least complaint so far: its number, 0 for none, and its place.
-#[derive(Drop)]
+#[derive(Clone, Copy)]
 pub struct Found {
     pub number: u32,
     pub place: u32,

@@ -1,4 +1,6 @@
 // A reader of expressions by recursive descent, which writes the raw rows of what it reads as they complete.
+#![tactic(auto)]
+
 ghost use Rattle.std.specs.Prelude.{◌≡◌, ◌+◌, ◌-◌, ◌*◌, ◌<◌, ◌≤◌, max, get_or, eqb, false};
 ghost use Rattle.std.proofs.lemmas.List.Edits.{sets};
 ghost use Rattle.arm_word.specs.Choice.{pick};
@@ -13,7 +15,7 @@ use x_program::{operator, row};
 use x_spelling::kind;
 
 // The next token to read, the number of rows, the process depth and the deepest expression; or the token that no program continues with.
-#[derive(Drop)]
+#[derive(Clone, Copy)]
 pub enum Read {
     Done(usize, usize, usize, usize),
     Bad(usize),

@@ -1,4 +1,6 @@
 // A reader of processes by recursive descent, which writes the raw rows of what it reads as they complete.
+#![tactic(auto)]
+
 ghost use Rattle.std.specs.Prelude.{◌≡◌, ◌+◌, ◌<◌, ◌≤◌, length, get_or};
 ghost use Rattle.x_spelling.specs.Kinds as tokens;
 ghost use Rattle.front_read_expressions.specs.Reads.{Reads, Fit};

@@ -5,7 +5,7 @@ use Rattle.std.proofs.Common.{sym, ap, subst, ◌∙◌, arith}
 use mathlib.Core.List.{List, [], ◌∷◌}
 use Prim.Native.Nat.{ℕ, zero, suc, ◌+◌, ◌-◌, ◌<◌, ◌≤◌}
 use Rattle.x_spelling.specs.Kinds as kind
-use Rattle.x_grammar.specs.Grammar.{Token, mark, Process, after_comment, Constant, literal, named, Specification, var, array, val, commented, Program, program, text_process, text_constant}
+use Rattle.x_grammar.specs.Grammar.{Token, mark, Process, after_comment, Constant, literal, named, Specification, var, array, val, commented, program, text_process, text_constant}
 use Rattle.x_grammar.specs.Grammar.{text_specification}
 use Rattle.x_grammar.specs.Automaton.{top, in_comments, in_order, at_front, need_process, have_process, accepted, refused, run, reads}
 use Rattle.x_grammar.specs.TokenArrays.{unread}

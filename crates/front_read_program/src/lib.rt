@@ -1,4 +1,6 @@
 // A reader of programs: specifications, then one process.
+#![tactic(auto)]
+
 ghost use Rattle.std.specs.Prelude.{◌≡◌, ℕ, ◌+◌, ◌≤◌, List, length, get_or};
 ghost use Rattle.x_spelling.specs.Kinds as tokens;
 ghost use Rattle.x_grammar.specs.Automaton.{reads};
@@ -12,21 +14,21 @@ use front_read_processes::process;
 use x_spelling::kind;
 
 // The token after a specification's `;` and the number of rows it declares; or the token that no program continues with.
-#[derive(Drop)]
+#[derive(Clone, Copy)]
 pub enum Specified {
     Next(usize, usize),
     Bad(usize),
 }
 
 // The token after the last specification's `;`, the process's first token that is no comment, and the number of declared rows; or the token that no program continues with.
-#[derive(Drop)]
+#[derive(Clone, Copy)]
 pub enum Front {
     Process(usize, usize, usize),
     Bad(usize),
 }
 
 // The token after the last specification's `;`, the number of rows, the process depth and the deepest expression; or the token that no program continues with.
-#[derive(Drop)]
+#[derive(Clone, Copy)]
 pub enum Answer {
     Program(usize, usize, usize, usize),
     Refused(usize),
