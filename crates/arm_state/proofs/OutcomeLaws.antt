@@ -1,15 +1,14 @@
--- What an instruction can come to: five outcomes, from which the laws of a step follow. Definitions and laws; rests on Effects and Lookup.
-use Rattle.std.specs.Prelude.{◌≡◌, refl, Bool, true, false, List, [], ◌∷◌, ℕ, ◌+◌, ◌<◌, length, get_or, set, leb}
+-- Every instruction comes to one of the five outcomes. Laws; rests on Effects and Lookup.
+use Rattle.std.specs.Prelude.{◌≡◌, refl, Bool, true, false, List, ℕ, ◌+◌, ◌<◌, length, get_or, leb}
 use Rattle.std.proofs.Common.{length-set, lit<}
 use Rattle.arm_word.specs.Choice.{pick}
 use Rattle.arm_word.specs.ChoiceLaws.{by_test}
-use Rattle.arm_word.specs.Access.{loaded, stored}
 use Rattle.arm_encoding.specs.declared.Instr.{Instr}
 use Rattle.arm_encoding.specs.declared.Instr.TheVariants.{Shli, Shri, Ashri, Addr, Subr, Movi, Addi, Subi, Ldrpci, Strspi, Ldrspi, Addpci, Addspi, Andr, Xorr, Shl, Shr, Negr, Orr, Mul}
 use Rattle.arm_encoding.specs.declared.Instr.TheVariants.{Mvnr, Str, Ldr}
 use Rattle.arm_encoding.specs.declared.Instr.TheVariants.{Stri, Ldri, Incsp, Decsp, Svc, Beq, Bne, Bge, Blt, Bu, Bl}
 use Rattle.arm_state.specs.State.{reg, next, takes, result, moves, jump, branch, link}
-use Rattle.arm_state.specs.Effects.{after, Effect, done, ended, goes, stops, aligned_of, slot_of, code_word, load_slot, load_at, load, store_slot, store_at, store, execute_of}
+use Rattle.arm_state.specs.Effects.{goes, aligned_of, slot_of, code_word, load_slot, load_at, load, store_slot, store_at, store, execute_of}
 use Rattle.arm_state.specs.Lookup.{slot_lt}
 use Rattle.arm_state.specs.declared.Flags.{Flags}
 use Rattle.arm_state.specs.declared.Machine.{Machine}
@@ -17,15 +16,7 @@ use Rattle.arm_state.specs.declared.Aligned.{Aligned}
 use Rattle.arm_state.specs.declared.Aligned.TheVariants.{Address, Not}
 use Rattle.arm_state.specs.declared.Slot.{Slot}
 use Rattle.arm_state.specs.declared.Slot.TheVariants.{At, Nowhere}
-
--- from words w and state m: a new state alone; a word loaded, and one stored, with a new state; an SVC; a fault or refusal, by its number
-pub data Outcome (w : List ℕ) (m : Machine) : Effect → Type 0 where
-  completed : (m' : Machine) → length m'.regs ≡ length m.regs → Outcome w m (goes w m')
-  loaded_word : (m' : Machine) (k : ℕ) → length m'.regs ≡ length m.regs → k < length w → Outcome w m (record { after = after (done m') w; access = loaded k (get_or w k 0) ∷ [] })
-  stored_word : (m' : Machine) (k v : ℕ) → length m'.regs ≡ length m.regs → k < length w
-      → Outcome w m (record { after = after (done m') (set w k v); access = stored k (get_or w k 0) v ∷ [] })
-  ended_by : (u : ℕ) → Outcome w m (stops w (ended m u))
-  faulted : (f n : ℕ) → 1 < f → Outcome w m (stops w (record { machine = m; status = f; number = n }))
+use Rattle.arm_state.specs.Outcome.{Outcome, completed, loaded_word, stored_word, ended_by, faulted}
 
 -- ── every change keeps the number of registers ──
 
