@@ -13,7 +13,7 @@ use Rattle.x_program.specs.Layout as layout
 use Rattle.x_program.specs.Table.{word}
 use Rattle.x_program.specs.ValidTable.{shape, process_shape, data_before, rows_in, data_in}
 use Rattle.x_program.specs.FittingRows.{Earlier, Fitting, Valid}
-use Rattle.x_program.specs.ValidTableLaws.{data_grows, row_words_fit, value_kinds, process_kinds}
+use Rattle.x_program.proofs.ValidTableLaws.{data_grows, row_words_fit, value_kinds, process_kinds}
 use Rattle.x_meaning.specs.SourceRun.{End, going, finish, stopped, bad_subscript, top, rest}
 use Rattle.x_meaning.specs.TableRun.{Item, begin, work₁, work₂, check, load, set_variable, store, choose, repeat, State, next, ended, offset_of, length_of, settle, begun, turn_by, turn, first}
 
