@@ -15,8 +15,10 @@ use Rattle.x_program.specs.FittingRows.{Valid}
 use Rattle.x_program.proofs.ValidTableLaws.{valid_table}
 use Rattle.x_meaning.specs.SourceRun.{End, going, finish, stopped, bad_subscript}
 use Rattle.x_meaning.specs.TableRun.{State, next, ended, turn, first, walked, is_going, walk_from, walk_of}
-use Rattle.x_meaning.specs.TableHeights.{Below, Sits, turn_sits, first_sits, list_room, pile_room}
-use Rattle.x_meaning.specs.TableCounts.{due, turn_due}
+use Rattle.x_meaning.specs.TableHeights.{Below}
+use Rattle.x_meaning.proofs.TableHeights.{Sits, turn_sits, first_sits, list_room, pile_room}
+use Rattle.x_meaning.specs.TableCounts.{due}
+use Rattle.x_meaning.proofs.TableCounts.{turn_due}
 use Rattle.walker_check.specs.TableCheck.{checked}
 use Rattle.walker_check.specs.TableCheckLaws.{checked_refused, checked_valid}
 use Rattle.walker_check.specs.declared.Checked.TheVariants.{Refused, Data}
