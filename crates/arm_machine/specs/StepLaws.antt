@@ -13,7 +13,8 @@ use Rattle.arm_classes.specs.Classes.{classify_of}
 use Rattle.arm_classes.specs.declared.Unlisted.{Unlisted}
 use Rattle.arm_classes.specs.declared.Unlisted.TheVariants.{Undefined, Unsupported}
 use Rattle.arm_state.specs.Effects.{Effect, done, fault, stops}
-use Rattle.arm_state.specs.Outcome.{Outcome, completed, loaded_word, stored_word, ended_by, faulted, execute_outcome}
+use Rattle.arm_state.specs.Outcome.{Outcome, completed, loaded_word, stored_word, ended_by, faulted}
+use Rattle.arm_state.proofs.OutcomeLaws.{execute_outcome}
 use Rattle.arm_state.specs.declared.Machine.{Machine}
 use Rattle.arm_machine.specs.declared.Fetched.{Fetched}
 use Rattle.arm_machine.specs.declared.Fetched.TheVariants.{Halves, Outside}

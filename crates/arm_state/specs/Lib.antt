@@ -3,6 +3,6 @@ pub mod State
 pub mod Effects
 pub mod Lookup
 pub mod Outcome
-pub mod FlagLaws
+pub mod KeptFlags
 pub mod MachineCore
 pub mod MachineCoreLaws

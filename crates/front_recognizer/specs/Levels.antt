@@ -16,7 +16,7 @@ use Rattle.x_grammar.specs.Automaton.{kind_of, goes_on, step_have_process, step_
 use Rattle.x_grammar.specs.Automaton.{step_partial, step_front, step, Reading, accepted, refused, final_process, final_expression, final_operand, final}
 use Rattle.x_grammar.specs.TreeDepth.{depth_process, depth_processes, depth, deepest, depth_limit, too_deep}
 use Rattle.x_grammar.specs.Nesting.{nesting_process, nesting_processes, nesting_expression, nesting_chain, nesting_operand, within_process, within_processes, nesting}
-use Rattle.x_grammar.specs.NestingLaws.{nests_within}
+use Rattle.x_grammar.proofs.NestingLaws.{nests_within}
 use Rattle.front_recognizer.specs.Pushdown.{configuration, counted, deep_by, level_process, level_list, level_expression, level_operand, level_chain}
 
 -- within the limit

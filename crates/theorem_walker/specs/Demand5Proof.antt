@@ -9,12 +9,12 @@ use Rattle.x_program.specs.Tree.{Program, none}
 use Rattle.x_program.specs.Rows.{table_of, row_count}
 use Rattle.x_program.specs.Sound.{Sound}
 use Rattle.x_program.specs.ValidTable.{rows_in}
-use Rattle.x_program.specs.ValidTableLaws.{valid_table}
-use Rattle.x_program.specs.SoundTable.{table_tree, table_data, sound_valid}
+use Rattle.x_program.proofs.ValidTableLaws.{valid_table}
+use Rattle.x_program.proofs.SoundTable.{table_tree, table_data, sound_valid}
 use Rattle.x_meaning.specs.SourceRun.{State, move, moves, begin, ends_with}
 use Rattle.x_meaning.specs.TableRun as rows
 use Rattle.x_meaning.specs.TableRun.{settle, turn, first, walked, walk_from, over, walk_of}
-use Rattle.x_meaning.specs.TableCounts.{steps_within}
+use Rattle.x_meaning.proofs.TableCounts.{steps_within}
 use Rattle.translate_rules.specs.ImageCode.{image}
 use Rattle.theorem_simulation.specs.Generic as generic
 use Rattle.theorem_simulation.specs.Generic.{times, times_still}

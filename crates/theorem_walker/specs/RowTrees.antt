@@ -9,7 +9,7 @@ use Rattle.x_program.specs.Table.{word, monadic_of, diadic_of, expression_at, pr
 use Rattle.x_program.specs.TableLaws.{at_constant, at_variable, at_element, at_monadic, at_diadic, at_skip, at_stop, at_assign, at_assign_element, at_sequence, at_conditional, at_loop}
 use Rattle.x_program.specs.ValidTable.{shape, process_shape, row_fits}
 use Rattle.x_program.specs.FittingRows.{Earlier, Fitting}
-use Rattle.x_program.specs.ValidTableLaws.{row_words_fit, value_kinds, process_kinds}
+use Rattle.x_program.proofs.ValidTableLaws.{row_words_fit, value_kinds, process_kinds}
 use Rattle.x_meaning.specs.TableRun.{offset_of, length_of}
 
 -- ── what it is for a row to stand for a tree ──

@@ -17,7 +17,8 @@ use Rattle.x_program.specs.Core as core
 use Rattle.x_program.specs.Rows.{monadic_number, diadic_number, row, row_of, declared_rows, count, rows, count_process, rows_process, table_of, row_count}
 use Rattle.x_program.specs.Table.{word, process_at}
 use Rattle.x_program.specs.Sound.{Declares, SoundExpression, SoundProcess, Sound, declared_row, declared_inside}
-use Rattle.x_program.specs.TableReadBack.{Holds, front, behind, length_rows, some_rows, length_rows_process, some_rows_process, length_declared, declared_word, read_back}
+use Rattle.x_program.specs.TableReadBack.{Holds, front, behind, length_rows, some_rows, length_rows_process, some_rows_process, length_declared, declared_word}
+use Rattle.x_program.proofs.TableReadBack.{read_back}
 use Rattle.translate_rules.specs.InstructionBytes.{bytes, size}
 use Rattle.translate_rules.specs.ImageCode.{image_code, image}
 use Rattle.translate_emit_instructions.specs.Write.{Room, Wrote}

@@ -14,7 +14,7 @@ use Rattle.x_program.specs.Layout.{row_words}
 use Rattle.x_program.specs.Layout as layout
 use Rattle.x_program.specs.Table.{word, row_in}
 use Rattle.x_program.specs.ValidTable.{shape, data_before, declared_in, row_fits, rows_fit, rows_in, data_in, valid}
-use Rattle.x_program.specs.ValidTableLaws.{row_words_fit}
+use Rattle.x_program.proofs.ValidTableLaws.{row_words_fit}
 use Rattle.x_program.specs.declared.table.Row.{Row}
 use Rattle.walker_check.specs.declared.Checked.TheVariants.{Refused, Data}
 use Rattle.walker_check.specs.TableCheck.{checked, words_fit, words_of, counted, ends_in_process}

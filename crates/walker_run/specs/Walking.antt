@@ -12,11 +12,13 @@ use Rattle.arm_word.specs.ChoiceLaws.{by_test}
 use Rattle.arm_word.specs.Access.{Access}
 use Rattle.x_program.specs.ValidTable.{rows_in, data_in}
 use Rattle.x_program.specs.FittingRows.{Valid}
-use Rattle.x_program.specs.ValidTableLaws.{valid_table}
+use Rattle.x_program.proofs.ValidTableLaws.{valid_table}
 use Rattle.x_meaning.specs.SourceRun.{End, going, finish, stopped, bad_subscript}
 use Rattle.x_meaning.specs.TableRun.{State, next, ended, turn, first, walked, is_going, walk_from, walk_of}
-use Rattle.x_meaning.specs.TableHeights.{Below, Sits, turn_sits, first_sits, list_room, pile_room}
-use Rattle.x_meaning.specs.TableCounts.{due, turn_due}
+use Rattle.x_meaning.specs.TableHeights.{Below}
+use Rattle.x_meaning.proofs.TableHeights.{Sits, turn_sits, first_sits, list_room, pile_room}
+use Rattle.x_meaning.specs.TableCounts.{due}
+use Rattle.x_meaning.proofs.TableCounts.{turn_due}
 use Rattle.walker_check.specs.TableCheck.{checked}
 use Rattle.walker_check.specs.TableCheckLaws.{checked_refused, checked_valid}
 use Rattle.walker_check.specs.declared.Checked.TheVariants.{Refused, Data}

@@ -1,4 +1,6 @@
 // The walker of request 2026-01: a syntax table run row by row over lent words, without recursion and in constant memory.
+#![tactic(auto)]
+
 ghost use Rattle.std.specs.Prelude.{◌≡◌, List, ℕ, ◌+◌, ◌-◌, ◌<◌, ◌≤◌, length};
 ghost use Rattle.x_program.specs.ValidTable as rules;
 ghost use Rattle.x_program.specs.FittingRows.{Valid};

@@ -15,4 +15,3 @@ pub mod RawRowLaws
 pub mod Unread
 pub mod GrammarCases
 pub mod RawRowCount
-pub mod NestingLaws

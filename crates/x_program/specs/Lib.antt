@@ -9,8 +9,6 @@ pub mod Table
 pub mod TableLaws
 pub mod ValidTable
 pub mod FittingRows
-pub mod ValidTableLaws
 pub mod Sound
 pub mod TableReadBack
-pub mod SoundTable
 pub mod SoundTree

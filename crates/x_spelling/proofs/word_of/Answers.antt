@@ -2,7 +2,7 @@
 -- Assumes nothing.
 use mathlib.Core.Path.{sym, ap, ◌∙◌}
 use Rattle.x_spelling.specs.Words.{token_of}
-use Rattle.x_spelling.specs.ReservedWordLaws.{look_up_right}
+use Rattle.x_spelling.proofs.ReservedWordLaws.{look_up_right}
 use Rattle.x_spelling.specs.declared.Lookup.{Lookup}
 use Rattle.x_spelling.proofs.word_of.Goals as goal
 

@@ -18,7 +18,8 @@ use Rattle.x_program.specs.Core.{constant, variable, element, monadic, diadic, s
 use Rattle.x_program.specs.Rows.{monadic_number, diadic_number, row, row_of, declared_rows, count, rows, count_process, rows_process, table_of, row_count}
 use Rattle.x_program.specs.Table.{word, process_at}
 use Rattle.x_program.specs.Sound.{Declares, here, later, Lengths, SoundExpression, SoundProcess, Sound, declared_row}
-use Rattle.x_program.specs.TableReadBack.{Holds, front, behind, length_row_of, length_rows, some_rows, length_rows_process, some_rows_process, length_declared, length_table, read_back}
+use Rattle.x_program.specs.TableReadBack.{Holds, front, behind, length_row_of, length_rows, some_rows, length_rows_process, some_rows_process, length_declared, length_table}
+use Rattle.x_program.proofs.TableReadBack.{read_back}
 use Rattle.x_program.specs.ValidTable.{shape, process_shape, declared_in, data_before, earlier, fits, row_fits, rows_fit, rows_in, data_in, valid}
 use Rattle.x_program.specs.FittingRows.{Earlier, Fit}
 use Rattle.x_program.specs.declared.Field.{Field}
