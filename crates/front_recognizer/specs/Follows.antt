@@ -16,7 +16,7 @@ use Rattle.x_grammar.specs.Unread.{token_case, at_is}
 use Rattle.front_recognizer.specs.declared.Frame.{Frame}
 use Rattle.front_recognizer.specs.declared.Action.{Action}
 use Rattle.front_recognizer.specs.Modes as mode
-use Rattle.front_recognizer.specs.Pushdown.{frame, braces_open, at, counted, level_process, level_list, level_expression, level_operand, level_chain, operator_before, frames_process}
+use Rattle.front_recognizer.specs.Pushdown.{frame, braces_open, counted, level_process, level_list, level_expression, level_operand, level_chain, operator_before, frames_process}
 use Rattle.front_recognizer.specs.Pushdown.{frames_list}
 use Rattle.front_recognizer.specs.Pushdown.{frames_expression, frames_operand, frames_chain, mode_partial, configuration, after_process, after_expression, links, after_operand, start_operand}
 use Rattle.front_recognizer.specs.Pushdown.{start_expression, start_process, specify, innermost, act, doing, complete}

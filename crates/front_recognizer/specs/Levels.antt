@@ -8,6 +8,7 @@ use Rattle.arm_word.specs.ChoiceLaws.{by_test}
 use Rattle.x_spelling.specs.Kinds as kind
 use Rattle.x_grammar.specs.Grammar.{Token, number, name, mark, Expression, single, monadic, Chain, last, more, Operand, constant, variable, element, bracketed, Process, skip, assign}
 use Rattle.x_grammar.specs.Grammar.{assign_element, braces, conditional, while, after_comment, Processes, only, followed, Constant, literal, named, Specification, Program, is_monadic, is_diadic}
+use Rattle.x_grammar.specs.Grammar.{val}
 use Rattle.x_grammar.specs.Automaton.{ProcessContext, top, in_braces, in_then, in_else, in_body, in_comment, ListContext, opened, also, ExpressionContext, in_assign, in_target, in_assign_element}
 use Rattle.x_grammar.specs.Automaton.{in_if, in_while, in_brackets, in_subscript, OperandContext, first, under, next, ChainContext, after, link, chain_base, chain_built, list_base, list_built}
 use Rattle.x_grammar.specs.Automaton.{in_comments, Partial, var_read, array_read, array_named, array_opened, array_sized, val_read, val_named, val_equated, whole, State, at_front, specifying}
@@ -218,14 +219,18 @@ to_process (in_braces c) p t =
     (either_way (have_process p (in_braces c)) (is kind.close_brace t) _ none
     (λ h l. whole_list c (only p) h.0 (omega arith) (omega arith), λ h. let g = from_list c (only p) h in ((g.0, (omega arith, omega arith)), tt)) tt)
 to_process (in_then e c) p t = either_way (have_process p (in_then e c)) (is kind.else t) _ none (λ h l. h, λ h. (h.0, tt)) tt
-to_process (in_else e q c) p t = onto _ _ (step_have_process c _ t) (branch e q p c) (to_process c _ t)
-to_process (in_body e c) p t = onto _ _ (step_have_process c _ t) (body e p c) (to_process c _ t)
-to_process (in_comment c) p t = onto _ _ (step_have_process c _ t) (commented p c) (to_process c _ t)
+to_process (in_else e q c) p t =
+    onto (have_process p (in_else e q c)) (have_process (conditional e q p) c) (step_have_process c (conditional e q p) t) (branch e q p c) (to_process c (conditional e q p) t)
+to_process (in_body e c) p t = onto (have_process p (in_body e c)) (have_process (while e p) c) (step_have_process c (while e p) t) (body e p c) (to_process c (while e p) t)
+to_process (in_comment c) p t =
+    onto (have_process p (in_comment c)) (have_process (after_comment p) c) (step_have_process c (after_comment p) t) (commented p c) (to_process c (after_comment p) t)
 
 to_expression : (c : ExpressionContext) (e : Expression) (t : Token) → To (have_expression e c) (step_have_expression c e t)
-to_expression (in_assign n c) e t = onto _ _ (step_have_process c _ t) (assigned n e c) (to_process c _ t)
+to_expression (in_assign n c) e t = onto (have_expression e (in_assign n c)) (have_process (assign n e) c) (step_have_process c (assign n e) t) (assigned n e c) (to_process c (assign n e) t)
 to_expression (in_target n c) e t = either_way (have_expression e (in_target n c)) (is kind.close_subscript t) _ none (λ h l. (h.0, omega arith), λ h. ((h.0.0, omega arith), h.0.0.1)) tt
-to_expression (in_assign_element n s c) e t = onto _ _ (step_have_process c _ t) (assigned_element n s e c) (to_process c _ t)
+to_expression (in_assign_element n s c) e t =
+    onto (have_expression e (in_assign_element n s c)) (have_process (assign_element n s e) c) (step_have_process c (assign_element n s e) t) (assigned_element n s e c) (to_process c
+    (assign_element n s e) t)
 to_expression (in_if c) e t = either_way (have_expression e (in_if c)) (is kind.then t) _ none (λ h l. ((h.0, omega arith), omega arith), λ h. ((h.0.0.0, omega arith), h.0.0.1)) tt
 to_expression (in_while c) e t = either_way (have_expression e (in_while c)) (is kind.do_word t) _ none (λ h l. ((h.0, omega arith), omega arith), λ h. ((h.0.0.0, omega arith), h.0.0.1)) tt
 to_expression (in_brackets c) e t = either_way (have_expression e (in_brackets c)) (is kind.close_bracket t) _ none (λ h l. (h.0, omega arith), λ h. ((h.0.0, omega arith), h.1)) tt
@@ -233,10 +238,12 @@ to_expression (in_subscript n c) e t = either_way (have_expression e (in_subscri
 
 to_operand : (c : OperandContext) (a : Operand) (t : Token) → To (have_operand a c) (step_have_operand c a t)
 to_operand (first c) a t =
-    either_way (have_operand a (first c)) (is_diadic (kind_of t)) _ _ (λ h l. h, λ h. (h.0, h.1.0)) (onto _ _ (step_have_expression c _ t) (alone a c) (to_expression c _ t))
-to_operand (under o c) a t = onto _ _ (step_have_expression c _ t) (negated o a c) (to_expression c _ t)
+    either_way (have_operand a (first c)) (is_diadic (kind_of t)) _ _ (λ h l. h, λ h. (h.0, h.1.0)) (onto (have_operand a (first c)) (have_expression (single a) c)
+    (step_have_expression c (single a) t) (alone a c) (to_expression c (single a) t))
+to_operand (under o c) a t = onto (have_operand a (under o c)) (have_expression (monadic o a) c) (step_have_expression c (monadic o a) t) (negated o a c) (to_expression c (monadic o a) t)
 to_operand (next o c) a t =
-    either_way (have_operand a (next o c)) (goes_on o t) _ _ (λ h l. h, λ h. (h.0, h.1.0)) (onto _ _ (step_have_expression (chain_base c) _ t) (chained o a c) (to_expression (chain_base c) _ t))
+    either_way (have_operand a (next o c)) (goes_on o t) _ _ (λ h l. h, λ h. (h.0, h.1.0)) (onto (have_operand a (next o c)) (joined c o (last a)) (step_have_expression (chain_base c)
+    (chain_built c o (last a)) t) (chained o a c) (to_expression (chain_base c) (chain_built c o (last a)) t))
 
 -- ── a part begins ──
 from_operand : (c : OperandContext) (t : Token) → To (need_operand c) (step_operand t c)
@@ -247,7 +254,7 @@ from_operand c (mark m) = either_way (need_operand c) (eqb m kind.open_bracket) 
 from_expression : (c : ExpressionContext) (t : Token) → To (need_expression c) (step_expression t c)
 from_expression c t =
     either_way (need_expression c) (is_monadic (kind_of t)) _ _ (λ h l. h, λ h. (h.0, (h.1.0, omega arith)))
-    (onto _ _ (step_operand t (first c)) (λ h. h, λ h. h) (from_operand (first c) t))
+    (onto (need_expression c) (need_operand (first c)) (step_operand t (first c)) (λ h. h, λ h. h) (from_operand (first c) t))
 
 -- a hole's level is that of what was read around it: so skip and stop, which call no reader, add nothing
 mutual
@@ -286,7 +293,8 @@ from_front b n t =
     (either_way (at_front b n) (is kind.var t) _ _ (λ h l. tt, λ h. h)
     (either_way (at_front b n) (is kind.array t) _ _ (λ h l. tt, λ h. h)
     (either_way (at_front b n) (is kind.val t) _ _ (λ h l. tt, λ h. h)
-    (onto _ (need_process (in_comments n (top b))) (step_process t (in_comments n (top b))) (λ h. around_comments n b, λ h. (tt, tt)) (from_process (in_comments n (top b)) t)))))
+    (onto (at_front b n) (need_process (in_comments n (top b))) (step_process t (in_comments n (top b))) (λ h. around_comments n b, λ h. (tt, tt)) (from_process (in_comments n
+    (top b)) t)))))
 
 -- within a specification
 at_name : (s : State) (f : ℕ → Move) (t : Token) → ((n : ℕ) → To s (f n)) → To s (with_name f t)
@@ -303,11 +311,11 @@ from_partial : (b : List Specification) (n : ℕ) (x : Partial) (t : Token) → 
 from_partial b n var_read t = at_name (specifying b n var_read) _ t (λ x. (λ h l. tt, λ h. h))
 from_partial b n array_read t = at_name (specifying b n array_read) _ t (λ x. (λ h l. tt, λ h. h))
 from_partial b n (array_named x) t = either_way (specifying b n (array_named x)) (is kind.open_subscript t) _ none (λ h l. tt, λ h. h) tt
-from_partial b n (array_opened x) t = at_constant (specifying b n (array_opened x)) _ t (λ c. (λ h l. tt, λ h. h))
+from_partial b n (array_opened x) t = at_constant (specifying b n (array_opened x)) (λ c. go (specifying b n (array_sized x c))) t (λ c. (λ h l. tt, λ h. h))
 from_partial b n (array_sized x c) t = either_way (specifying b n (array_sized x c)) (is kind.close_subscript t) _ none (λ h l. tt, λ h. h) tt
 from_partial b n val_read t = at_name (specifying b n val_read) _ t (λ x. (λ h l. tt, λ h. h))
 from_partial b n (val_named x) t = either_way (specifying b n (val_named x)) (is kind.equal t) _ none (λ h l. tt, λ h. h) tt
-from_partial b n (val_equated x) t = at_constant (specifying b n (val_equated x)) _ t (λ c. (λ h l. tt, λ h. h))
+from_partial b n (val_equated x) t = at_constant (specifying b n (val_equated x)) (λ c. go (specifying b n (whole (val x c)))) t (λ c. (λ h l. tt, λ h. h))
 from_partial b n (whole s) t = either_way (specifying b n (whole s)) (is kind.semicolon t) _ none (λ h l. tt, λ h. h) tt
 
 to : (s : State) (t : Token) → To s (step s t)
@@ -316,7 +324,7 @@ to (specifying b n x) t = from_partial b n x t
 to (need_process c) t = from_process c t
 to (brace_opened c) t =
     either_way (brace_opened c) (is kind.close_brace t) _ _ (λ h l. (h.0, (omega arith, omega arith)), λ h. ((h.0.0, omega arith), tt))
-    (onto _ (need_process (in_braces (opened c))) (step_process t (in_braces (opened c))) (λ h. h, λ h. (h.0, tt)) (from_process (in_braces (opened c)) t))
+    (onto (brace_opened c) (need_process (in_braces (opened c))) (step_process t (in_braces (opened c))) (λ h. h, λ h. (h.0, tt)) (from_process (in_braces (opened c)) t))
 to (target n c) t =
     either_way (target n c) (is kind.becomes t) _ _ (λ h l. h, λ h. (h.0, tt))
     (either_way (target n c) (is kind.open_subscript t) _ none (λ h l. h, λ h. (h.0, tt)) tt)
@@ -326,7 +334,7 @@ to (need_expression c) t = from_expression c t
 to (need_operand c) t = from_operand c t
 to (name_read n c) t =
     either_way (name_read n c) (is kind.open_subscript t) _ _ (λ h l. h.0, λ h. ((h.0, omega arith), h.1.0))
-    (onto _ _ (step_have_operand c _ t) (by_name n c) (to_operand c (variable n) t))
+    (onto (name_read n c) (have_operand (variable n) c) (step_have_operand c (variable n) t) (by_name n c) (to_operand c (variable n) t))
 to (have_operand a c) t = to_operand c a t
 to (have_expression e c) t = to_expression c e t
 
@@ -343,23 +351,28 @@ at_process : (c : ProcessContext) (p : Process) → At (have_process p c) (final
 at_process (top b) p = (λ h. omega arith, λ h. ((tt, (omega arith, omega (arith, nests_within p))), tt))
 at_process (in_braces c) p = tt
 at_process (in_then e c) p = tt
-at_process (in_else e q c) p = until _ _ (final_process c _) (branch e q p c) (at_process c _)
-at_process (in_body e c) p = until _ _ (final_process c _) (body e p c) (at_process c _)
-at_process (in_comment c) p = until _ _ (final_process c _) (commented p c) (at_process c _)
+at_process (in_else e q c) p =
+    until (have_process p (in_else e q c)) (have_process (conditional e q p) c) (final_process c (conditional e q p)) (branch e q p c) (at_process c (conditional e q p))
+at_process (in_body e c) p = until (have_process p (in_body e c)) (have_process (while e p) c) (final_process c (while e p)) (body e p c) (at_process c (while e p))
+at_process (in_comment c) p = until (have_process p (in_comment c)) (have_process (after_comment p) c) (final_process c (after_comment p)) (commented p c) (at_process c (after_comment p))
 
 at_expression : (c : ExpressionContext) (e : Expression) → At (have_expression e c) (final_expression c e)
-at_expression (in_assign n c) e = until _ _ (final_process c _) (assigned n e c) (at_process c _)
+at_expression (in_assign n c) e = until (have_expression e (in_assign n c)) (have_process (assign n e) c) (final_process c (assign n e)) (assigned n e c) (at_process c (assign n e))
 at_expression (in_target n c) e = tt
-at_expression (in_assign_element n s c) e = until _ _ (final_process c _) (assigned_element n s e c) (at_process c _)
+at_expression (in_assign_element n s c) e =
+    until (have_expression e (in_assign_element n s c)) (have_process (assign_element n s e) c) (final_process c (assign_element n s e)) (assigned_element n s e c) (at_process c
+    (assign_element n s e))
 at_expression (in_if c) e = tt
 at_expression (in_while c) e = tt
 at_expression (in_brackets c) e = tt
 at_expression (in_subscript n c) e = tt
 
 at_operand : (c : OperandContext) (a : Operand) → At (have_operand a c) (final_operand c a)
-at_operand (first c) a = until _ _ (final_expression c _) (alone a c) (at_expression c _)
-at_operand (under o c) a = until _ _ (final_expression c _) (negated o a c) (at_expression c _)
-at_operand (next o c) a = until _ _ (final_expression (chain_base c) _) (chained o a c) (at_expression (chain_base c) _)
+at_operand (first c) a = until (have_operand a (first c)) (have_expression (single a) c) (final_expression c (single a)) (alone a c) (at_expression c (single a))
+at_operand (under o c) a = until (have_operand a (under o c)) (have_expression (monadic o a) c) (final_expression c (monadic o a)) (negated o a c) (at_expression c (monadic o a))
+at_operand (next o c) a =
+    until (have_operand a (next o c)) (joined c o (last a)) (final_expression (chain_base c) (chain_built c o (last a))) (chained o a c) (at_expression (chain_base c) (chain_built c o
+    (last a)))
 
 at_end : (s : State) → At s (final s)
 at_end (at_front b n) = tt
@@ -371,7 +384,7 @@ at_end (target_element n s c) = tt
 at_end (have_process p c) = at_process c p
 at_end (need_expression c) = tt
 at_end (need_operand c) = tt
-at_end (name_read n c) = until _ _ (final_operand c _) (by_name n c) (at_operand c _)
+at_end (name_read n c) = until (name_read n c) (have_operand (variable n) c) (final_operand c (variable n)) (by_name n c) (at_operand c (variable n))
 at_end (have_operand a c) = at_operand c a
 at_end (have_expression e c) = at_expression c e
 

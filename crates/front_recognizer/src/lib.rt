@@ -1,4 +1,6 @@
 // The grammar's automaton without its trees, its stack in the working table: which token no program continues with, and whether the program is too deep, in constant memory.
+#![tactic(auto)]
+
 pub mod mark;
 pub mod mode;
 
@@ -30,7 +32,7 @@ const CHAIN_OF_TIMES: u32 = kind::TIMES as u32 + CHAIN;
 const CHAIN_OF_XOR: u32 = kind::XOR as u32 + CHAIN;
 
 // What is open, by its mark; the operator before it, and the level outside.
-#[derive(Drop)]
+#[derive(Clone, Copy)]
 pub struct Frame {
     pub mark: u32,
     pub operator: u32,
@@ -38,7 +40,7 @@ pub struct Frame {
 }
 
 // What a token does: the next mode, operator and level, whether a frame is popped, and the frame that is pushed (mark 0: none).
-#[derive(Drop)]
+#[derive(Clone, Copy)]
 pub struct Action {
     pub mode: u8,
     pub operator: u32,
@@ -48,7 +50,7 @@ pub struct Action {
 }
 
 // The automaton's control, and the number of frames in the table.
-#[derive(Drop)]
+#[derive(Clone, Copy)]
 pub struct Control {
     pub mode: u8,
     pub operator: u32,
@@ -57,7 +59,7 @@ pub struct Control {
 }
 
 // A program; a program that is too deep; or the token that no program continues with.
-#[derive(Drop)]
+#[derive(Clone, Copy)]
 pub enum Recognized {
     Program,
     Deep,
@@ -239,7 +241,7 @@ fn after_operand(o: u32, level: u32, f: Frame, k: u8) -> Action
 }
 
 fn start_operand(o: u32, level: u32, k: u8) -> Action
-    ensures { result ≡ rules.start_Operand o level k }
+    ensures { result ≡ rules.start_operand o level k }
 {
     if k == kind::NUMBER {
         return stay(mode::HAVE_OPERAND, o, level);
