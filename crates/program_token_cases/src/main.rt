@@ -1,4 +1,6 @@
 // Sources of document 01 and of docs/DECISIONS.md as tokens (kind:place:value) or as a refusal, written to standard output.
+#![tactic(auto)]
+
 use x_tokens::Scanned;
 
 fn text(rt: &impl Print, s: &[u8]) {
