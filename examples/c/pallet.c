@@ -1,7 +1,7 @@
 /* Translates a rule, runs its image on lent memory, and prints how it ended and its words; then gets an update that is
  * refused, and goes on with the rule. Last it tells what code is that no translation gave.
  *
- *   rt staticlib gutilamboy
+ *   tools/archives
  *   cc -std=c99 -Wall -I include examples/c/pallet.c target/staticlib/libgutilamboy.a -o pallet && ./pallet
  */
 #include <stdio.h>

@@ -1,4 +1,6 @@
 // Document 01's encodings and short runs of the machine, written to standard output.
+#![tactic(auto)]
+
 use arm_encoding::Instr;
 
 fn text(rt: &impl Print, s: &[u8]) {

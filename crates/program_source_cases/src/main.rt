@@ -1,4 +1,6 @@
 // Document 01's sources, starred and others, and some near them, from their bytes: status, place, tokens, rows, data words, N and image bytes.
+#![tactic(auto)]
+
 use translate_source::Translation;
 
 fn text(rt: &impl Print, s: &[u8]) {

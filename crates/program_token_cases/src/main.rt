@@ -1,4 +1,6 @@
 // Sources of document 01 and of docs/DECISIONS.md as tokens (kind:place:value) or as a refusal, written to standard output.
+#![tactic(auto)]
+
 use x_tokens::Scanned;
 
 fn text(rt: &impl Print, s: &[u8]) {
@@ -18,7 +20,13 @@ fn wide(x: u32) -> u64 {
 }
 
 // One token, if there is one at i.
-fn shown(rt: &impl Print, kinds: &[u8; 1024], places: &[u32; 1024], values: &[u32; 1024], i: usize) {
+fn shown(
+    rt: &impl Print,
+    kinds: &[u8; 1024],
+    places: &[u32; 1024],
+    values: &[u32; 1024],
+    i: usize,
+) {
     if i < kinds.len() {
         if i < places.len() {
             if i < values.len() {
@@ -88,7 +96,10 @@ fn main(rt: HostRuntime) {
     case(&rt, b"{skip;}");
     case(&rt, b"");
     case(&rt, b"a<<=b<>c<=d>=e>>f<g>h");
-    case(&rt, b"and array do else func if is not or proc return skip stop then val valof var while xor");
+    case(
+        &rt,
+        b"and array do else func if is not or proc return skip stop then val valof var while xor",
+    );
     case(&rt, b"|a ; comment| skip");
     case(&rt, b"skip |open");
     case(&rt, b"a : b");

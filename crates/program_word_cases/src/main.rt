@@ -1,4 +1,6 @@
 // How names are looked up among the reserved words, written to standard output: with how many each is compared in full, and what it stands for.
+#![tactic(auto)]
+
 use x_spelling::Found;
 
 // The longest name here has one byte more than a name may have.
@@ -162,7 +164,10 @@ fn main(rt: HostRuntime) {
         &rt,
         b"with ? for each of abcdefghijklmnopqrstuvwxyzABCDEFGHIJKLMNOPQRSTUVWXYZ0123456789_ in turn: a digit each\n",
     );
-    text(&rt, b"with .. for one _ after another, up to 33 bytes: a digit each\n");
+    text(
+        &rt,
+        b"with .. for one _ after another, up to 33 bytes: a digit each\n",
+    );
     first_words(&rt);
     last_words(&rt);
     others(&rt);

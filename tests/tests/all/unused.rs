@@ -40,11 +40,11 @@ fn unquoted(text: &str) -> String {
     text.replace(['«', '»'], "")
 }
 
-/// The file of a path of `use`: `Rattle·CRATE.specs.File` and `Rattle·CRATE·specs.specs.File`, likewise of proofs; and
-/// the rest of the path. What the code declares is in no file of definitions.
+/// The file of a path of `use`: `Rattle.CRATE.specs.File`, likewise of proofs; and the rest of the path. What the code
+/// declares is in no file of definitions, what the toolchain has in none of the repository's.
 fn file_of(path: &str) -> Option<(String, Vec<String>)> {
-    let mut parts = path.strip_prefix("Rattle·")?.split('.').map(String::from);
-    let name = parts.next()?.split('·').next()?.to_string();
+    let mut parts = path.strip_prefix("Rattle.")?.split('.').map(String::from);
+    let name = parts.next()?;
     let folder = parts.next()?;
     let file = parts.next().filter(|file| file != "declared")?;
     Some((format!("crates/{name}/{folder}/{file}.antt"), parts.collect()))
@@ -141,36 +141,65 @@ fn read_definitions(text: &str) -> Held {
 
 // ── code ──
 
-/// A file of code, by its items' first lines: functions and constants, those of an `impl` too. An exported function and
-/// a program's `main` are used from outside. Structures and enumerations are left out.
+/// What the attributes of a whole file of code name.
+const FILE: &str = "#![]";
+
+/// What a `use` of code brings: names in braces, or one.
+fn take_code_use(held: &mut Held, path: &str) {
+    let (from, names) = path.rsplit_once("::").unwrap_or((path, path));
+    let from = from.split("::").next().expect("a crate");
+    for name in names.split(['{', '}', ',', ' ']).filter(|name| !name.is_empty()) {
+        held.imports.insert(name.to_string(), (format!("crates/{from}/src"), name.to_string()));
+    }
+}
+
+/// A file of code, by its items' first lines: functions and constants, those of an `impl` too, each with the attributes
+/// above it, which may name laws for its proof. An exported function, a program's `main` and what an attribute of the
+/// whole file names are used from outside. Structures and enumerations are left out.
 fn read_code(text: &str) -> Held {
     let text = &unquoted(text);
     let mut held = Held::default();
     let mut current: Option<String> = None;
+    let mut attributes: Vec<String> = Vec::new();
+    let mut open_use: Option<String> = None;
     for line in text.lines().map(|line| line.split("//").next().expect("a beginning")) {
         let trimmed = line.trim();
+        if let Some(whole) = trimmed.strip_prefix("#![") {
+            held.roots.push(FILE.to_string());
+            held.definitions.entry(FILE.to_string()).or_default().extend(words(whole).map(String::from));
+            continue;
+        }
+        if let Some(attribute) = trimmed.strip_prefix("#[") {
+            attributes.extend(words(attribute).map(String::from));
+            continue;
+        }
         if let Some(path) = trimmed.strip_prefix("ghost use ") {
             take_use(&mut held, path);
             continue;
         }
-        if let Some(path) = trimmed.strip_prefix("use ") {
-            let path = path.trim_end_matches(';');
-            let (from, name) = path.rsplit_once("::").unwrap_or((path, path));
-            let from = from.split("::").next().expect("a crate");
-            held.imports.insert(name.to_string(), (format!("crates/{from}/src"), name.to_string()));
+        if let Some(path) =
+            open_use.take().map(|path| path + trimmed).or(trimmed.strip_prefix("use ").map(String::from))
+        {
+            match path.strip_suffix(';') {
+                Some(path) => take_code_use(&mut held, path),
+                None => open_use = Some(path),
+            }
             continue;
         }
         let head: Vec<&str> = trimmed.split(|c: char| !c.is_alphanumeric() && c != '_' && c != '"').collect();
         let at = head.iter().position(|word| !["pub", "extern", "\"C\"", "ghost"].contains(word));
         match at.map(|at| (head[at], head.get(at + 1))) {
             Some(("fn" | "const", Some(name))) if !name.is_empty() => {
-                held.definitions.insert(name.to_string(), Vec::new());
+                held.definitions.insert(name.to_string(), std::mem::take(&mut attributes));
                 if head.contains(&"extern") || *name == "main" {
                     held.roots.push(name.to_string());
                 }
                 current = Some(name.to_string());
             }
-            Some(("struct" | "enum" | "impl" | "mod", _)) => current = None,
+            Some(("struct" | "enum" | "impl" | "mod", _)) => {
+                attributes.clear();
+                current = None;
+            }
             _ => {}
         }
         if let Some(name) = &current {
@@ -198,7 +227,7 @@ fn meant(files: &Files, file: &str, word: &str) -> Vec<Key> {
     }
     let mut found = Vec::new();
     for piece in pieces {
-        let infix = format!("_{piece}_");
+        let infix = format!("◌{piece}◌");
         for name in [piece, &infix] {
             if held.definitions.contains_key(name) || held.parts.contains_key(name) {
                 found.push((file.to_string(), name.to_string()));
@@ -237,17 +266,27 @@ fn meant_in_code(files: &Files, file: &str, word: &str) -> Vec<Key> {
     found
 }
 
-/// The files of proof of a function: `proofs/.../NAME/Proof.antt`, `proofs/+NAME+OTHER/Proof.antt`; what they prove is
-/// their definitions in `-spec`.
+/// The files of proof of a function, in `proofs/.../NAME`, or in `proofs/+NAME` where it calls itself, or NAME is its
+/// cycle's: its invariants, measures and answers, each of which has a goal (`goal.NAME`) as its type, and in Proof.antt
+/// what ends in `_spec`.
 fn proofs_of(files: &Files, file: &str, function: &str) -> Vec<Key> {
+    let text = &files[file].definitions[function];
+    let cycle = text.iter().position(|word| word == "cycle").and_then(|at| text.get(at + 1));
     let folder = format!("{}/proofs/", file.split("/src/").next().expect("a crate"));
     let proves = |path: &&String| {
-        let inner = path.strip_prefix(&folder).and_then(|rest| rest.strip_suffix("/Proof.antt"));
-        inner.is_some_and(|rest| rest.split(['/', '+']).any(|name| name == function))
+        let inner = path.strip_prefix(&folder).and_then(|rest| rest.rsplit_once('/'));
+        inner.is_some_and(|(rest, _)| {
+            rest.split(['/', '+']).any(|name| name == function || Some(name) == cycle.map(|c| &**c))
+        })
     };
     let of = |path: &String| {
-        let names = files[path].definitions.keys().filter(|name| name.ends_with("-spec"));
-        names.map(|name| (path.clone(), name.clone())).collect::<Vec<_>>()
+        let answers = |name: &String, text: &[String]| {
+            name.ends_with("_spec")
+                || name.ends_with("-spec")
+                || text.iter().any(|word| word.strip_prefix("goal.") == Some(name))
+        };
+        let names = files[path].definitions.iter().filter(|(name, text)| answers(name, text));
+        names.map(|(name, _)| (path.clone(), name.clone())).collect::<Vec<_>>()
     };
     files.keys().filter(proves).flat_map(of).collect()
 }
@@ -393,11 +432,11 @@ fn unused_definitions_are_noticed() {
     let folder = "crates/arm_word";
     let name = folder.trim_start_matches("crates/");
     let (specs, other) = ("crates/arm_word/specs/Word.antt", "crates/arm_word/specs/WordLaws.antt");
-    let (code, proof) = ("crates/arm_word/src/lib.rt", "crates/arm_word/proofs/low_product/Proof.antt");
-    let import = &*format!("use Rattle·{name}·specs.specs.Word.{{made-up}}");
+    let (code, proof) = ("crates/arm_word/src/lib.rt", "crates/arm_word/proofs/shift_left/Answers.antt");
+    let import = &*format!("use Rattle.{name}.specs.Word.{{made-up}}");
     let called = "fn made_up() -> u32 {\n    7\n}\n";
     // the additions, and which definitions nothing uses then
-    let cases: [(Additions, &[&str]); 9] = [
+    let cases: [(Additions, &[&str]); 12] = [
         (&[(specs, "made-up : ℕ\nmade-up = 7")], &["made-up"]),
         (
             &[(specs, "abbrev pub made-up : ℕ → ℕ\nmade-up zero = 7\nmade-up (suc n) = made-up n")],
@@ -413,7 +452,20 @@ fn unused_definitions_are_noticed() {
         (&[(code, "const MADE_UP: u32 = 7;")], &["MADE_UP"]),
         (&[(proof, "made-up : ℕ\nmade-up = 7")], &["made-up"]),
         (
-            &[(code, called), (code, "#[no_mangle]\npub extern \"C\" fn out() -> u32 {\n    made_up()\n}")],
+            &[
+                (code, called),
+                (code, "#[unsafe(no_mangle)]\npub extern \"C\" fn out() -> u32 {\n    made_up()\n}"),
+            ],
+            &[],
+        ),
+        (&[(proof, "made-up : ℕ\nmade-up = 7\npub made-too : goal.made-too\nmade-too c = made-up")], &[]),
+        (&[(proof, "made-up : ℕ\nmade-up = 7"), (code, "#![tactic(auto, using(made-up))]")], &["made-up"]),
+        (
+            &[
+                (specs, "pub made-up : ℕ\nmade-up = 7"),
+                (code, "ghost use Rattle.arm_word.specs.Word.{made-up};"),
+                (code, "#[tactic(auto, using(made-up))]\npub extern \"C\" fn out() {}"),
+            ],
             &[],
         ),
     ];
