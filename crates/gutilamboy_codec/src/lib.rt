@@ -1,4 +1,6 @@
 // The C boundary of the instructions' encoding: encode and decode by number. An archive of its own, since a run is fastest where it alone calls decode.
+#![tactic(auto)]
+
 ghost use Rattle.std.specs.Prelude.{◌≡◌};
 ghost use Rattle.arm_encoding.specs.Encoding.{decode_of};
 ghost use Rattle.gutilamboy_numbers.specs.Numbers as numbers;

@@ -1,4 +1,6 @@
 // Instructions, decodings and states of the machine as numbers, for the C boundary.
+#![tactic(auto)]
+
 ghost use Rattle.std.specs.Prelude.{◌≡◌, [], ◌∷◌, ◌≤◌};
 ghost use Rattle.arm_word.specs.Choice.{pick};
 ghost use Rattle.gutilamboy_numbers.specs.Numbers as numbers;

@@ -1,4 +1,6 @@
 // The C boundary of the walker: a syntax table run over lent words, its accesses into a lent buffer.
+#![tactic(auto)]
+
 ghost use Rattle.std.specs.Prelude.{◌≡◌};
 ghost use Rattle.gutilamboy_walker.specs.WalkCall as calls;
 
