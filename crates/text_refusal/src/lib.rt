@@ -1,4 +1,6 @@
 // What is wrong with a refused source.
+#![tactic(auto)]
+
 ghost use Rattle.std.specs.Prelude.{◌≡◌, List, ℕ};
 ghost use Rattle.x_tokens.specs.TokenList.{entries, outcome};
 ghost use Rattle.text_lines.specs.Text.{written, fitted};

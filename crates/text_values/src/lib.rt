@@ -1,4 +1,6 @@
 // The words of a program's data by name, a line each.
+#![tactic(auto)]
+
 ghost use Rattle.std.specs.Prelude.{◌≡◌, ◌++◌, get_or};
 ghost use Rattle.arm_word.specs.Ascii.{ascii};
 ghost use Rattle.text_lines.specs.Text as text;
