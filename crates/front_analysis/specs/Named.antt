@@ -14,8 +14,7 @@ use Rattle.x_grammar.specs.RawRowLaws.{length_process, sets_rows}
 use Rattle.x_grammar.specs.TreeDepth as grammar_depth
 use Rattle.x_program.specs.Layout.{row_words}
 use Rattle.x_program.specs.Core.{core_process}
-use Rattle.x_program.specs.ProgramDepth.{deepest}
-use Rattle.x_program.specs.Rows.{declared_rows, rows_process, count_process, table_of, row_count}
+use Rattle.x_program.specs.Rows.{declared_rows, rows_process, table_of, row_count}
 use Rattle.x_program.specs.TableReadBack.{Holds, length_declared, length_rows_process}
 use Rattle.x_names.specs.Scope.{Scope, empty_scope, declare_all}
 use Rattle.x_names.specs.Complaints.{Complaint, Verdict, fine, refused, of_specifications, of_process, complaints, least}

@@ -1,4 +1,6 @@
 // The front end: tokens, grammar, depth and names, in document 01's order.
+#![tactic(auto)]
+
 ghost use Rattle.std.specs.Prelude.{◌≡◌, ◌≤◌, ltb, length, get_or};
 ghost use Rattle.arm_word.specs.Choice.{pick};
 ghost use Rattle.x_tokens.specs.TokenList as scanned;
@@ -27,7 +29,7 @@ const CODE_PER_TOKEN: usize = 48;
 const CODE_MORE: usize = 256;
 
 // A refusal's number and place, or the number of tokens, of rows, of data words and N.
-#[derive(Drop)]
+#[derive(Clone, Copy)]
 pub enum Analysis {
     Refused(u32, u32),
     Accepted(usize, usize, u32, usize),

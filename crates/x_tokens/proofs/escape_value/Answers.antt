@@ -1,5 +1,6 @@
 -- `x_tokens::escape_value` meets its contract. Each way through the code makes the same choices as the definition.
 -- Assumes nothing.
+use native.Mathlib.Omega.{arith}
 use borrow.Author.Tests.{ne_eqb}
 use Rattle.x_tokens.specs.Lexemes.{escape_value}
 use Rattle.x_tokens.proofs.escape_value.Goals as goal
@@ -36,11 +37,11 @@ pub returns-in_default : goal.returns-in_default
 unfolding escape_value
 returns-in_default c =
     rw (
-      ne_eqb c.args.b 99 c.in_default.in_default-own.rest.0.0.0.0.0.0.1,
-      ne_eqb c.args.b 110 c.in_default.in_default-own.rest.0.0.0.0.0.1,
-      ne_eqb c.args.b 116 c.in_default.in_default-own.rest.0.0.0.0.1,
-      ne_eqb c.args.b 115 c.in_default.in_default-own.rest.0.0.0.1,
-      ne_eqb c.args.b 39 c.in_default.in_default-own.rest.0.0.1,
-      ne_eqb c.args.b 34 c.in_default.in_default-own.rest.0.1,
-      ne_eqb c.args.b 42 c.in_default.in_default-own.rest.1,
+      ne_eqb c.args.b 99 (omega arith),
+      ne_eqb c.args.b 110 (omega arith),
+      ne_eqb c.args.b 116 (omega arith),
+      ne_eqb c.args.b 115 (omega arith),
+      ne_eqb c.args.b 39 (omega arith),
+      ne_eqb c.args.b 34 (omega arith),
+      ne_eqb c.args.b 42 (omega arith),
     )

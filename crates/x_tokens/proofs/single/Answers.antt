@@ -1,5 +1,6 @@
 -- `x_tokens::single` meets its contract. Each way through the code makes the same choices as the definition.
 -- Assumes nothing.
+use native.Mathlib.Omega.{arith}
 use borrow.Author.Tests.{ne_eqb}
 use Rattle.x_tokens.specs.Lexemes.{single}
 use Rattle.x_tokens.proofs.single.Goals as goal
@@ -64,18 +65,18 @@ pub returns-in_default : goal.returns-in_default
 unfolding single
 returns-in_default c =
     rw (
-      ne_eqb c.args.b 43 c.in_default.in_default-own.rest.0.0.0.0.0.0.0.0.0.0.0.0.0.1,
-      ne_eqb c.args.b 45 c.in_default.in_default-own.rest.0.0.0.0.0.0.0.0.0.0.0.0.1,
-      ne_eqb c.args.b 42 c.in_default.in_default-own.rest.0.0.0.0.0.0.0.0.0.0.0.1,
-      ne_eqb c.args.b 61 c.in_default.in_default-own.rest.0.0.0.0.0.0.0.0.0.0.1,
-      ne_eqb c.args.b 60 c.in_default.in_default-own.rest.0.0.0.0.0.0.0.0.0.1,
-      ne_eqb c.args.b 62 c.in_default.in_default-own.rest.0.0.0.0.0.0.0.0.1,
-      ne_eqb c.args.b 40 c.in_default.in_default-own.rest.0.0.0.0.0.0.0.1,
-      ne_eqb c.args.b 41 c.in_default.in_default-own.rest.0.0.0.0.0.0.1,
-      ne_eqb c.args.b 91 c.in_default.in_default-own.rest.0.0.0.0.0.1,
-      ne_eqb c.args.b 93 c.in_default.in_default-own.rest.0.0.0.0.1,
-      ne_eqb c.args.b 123 c.in_default.in_default-own.rest.0.0.0.1,
-      ne_eqb c.args.b 125 c.in_default.in_default-own.rest.0.0.1,
-      ne_eqb c.args.b 59 c.in_default.in_default-own.rest.0.1,
-      ne_eqb c.args.b 44 c.in_default.in_default-own.rest.1,
+      ne_eqb c.args.b 43 (omega arith),
+      ne_eqb c.args.b 45 (omega arith),
+      ne_eqb c.args.b 42 (omega arith),
+      ne_eqb c.args.b 61 (omega arith),
+      ne_eqb c.args.b 60 (omega arith),
+      ne_eqb c.args.b 62 (omega arith),
+      ne_eqb c.args.b 40 (omega arith),
+      ne_eqb c.args.b 41 (omega arith),
+      ne_eqb c.args.b 91 (omega arith),
+      ne_eqb c.args.b 93 (omega arith),
+      ne_eqb c.args.b 123 (omega arith),
+      ne_eqb c.args.b 125 (omega arith),
+      ne_eqb c.args.b 59 (omega arith),
+      ne_eqb c.args.b 44 (omega arith),
     )
