@@ -15,9 +15,11 @@ use Rattle.x_tokens.specs.TokenList.{Entry}
 use Rattle.x_tokens.specs.Split.{split, Flaw, Starts}
 use Rattle.x_tokens.specs.TokenLaws.{outcome_short, outcome_long}
 use Rattle.x_tokens.specs.SplitLaws as lexical
-use Rattle.x_tokens.specs.SplitLaws.{NotBefore, by_token, by_count, Agrees, one_list, flaw_most, agree_split}
+use Rattle.x_tokens.specs.SplitLaws.{NotBefore, by_token, by_count, Agrees, one_list}
+use Rattle.x_tokens.proofs.SplitLaws.{flaw_most, agree_split}
 use Rattle.x_tokens.specs.SourceLaws as source_laws
-use Rattle.x_tokens.specs.SourceLaws.{Placed, outcome_sound}
+use Rattle.x_tokens.specs.SourceLaws.{Placed}
+use Rattle.x_tokens.proofs.SourceLaws.{outcome_sound}
 use Rattle.x_grammar.specs.Grammar.{Token, Program, IsProgram}
 use Rattle.x_grammar.specs.Automaton as automaton
 use Rattle.x_grammar.specs.Automaton.{reads}

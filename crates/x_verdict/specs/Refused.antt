@@ -8,7 +8,8 @@ use Rattle.x_tokens.specs.Refusals as refusals
 use Rattle.x_tokens.specs.TokenList as token
 use Rattle.x_tokens.specs.TokenList.{Entry}
 use Rattle.x_tokens.specs.SourceLaws as source_laws
-use Rattle.x_tokens.specs.SourceLaws.{Placed, outcome_sound}
+use Rattle.x_tokens.specs.SourceLaws.{Placed}
+use Rattle.x_tokens.proofs.SourceLaws.{outcome_sound}
 use Rattle.x_grammar.specs.Grammar as grammar
 use Rattle.x_grammar.specs.Grammar.{Token, number, name, mark, text_program}
 use Rattle.x_grammar.specs.TokenArrays.{token_of}
