@@ -14,7 +14,7 @@ use Rattle.x_grammar.specs.GrammarExact.{accepts}
 use Rattle.x_program.specs.Tree.{Program, data_words}
 use Rattle.x_names.specs.Scope.{Scope, empty_scope}
 use Rattle.x_names.specs.Resolve.{resolve}
-use Rattle.x_names.specs.Specified.{words_declared}
+use Rattle.x_names.proofs.Specified.{words_declared}
 use Rattle.x_verdict.specs.Symbols.{text_of, symbols}
 use Rattle.x_verdict.specs.Front.{accepted, front}
 use Rattle.x_verdict.specs.VerdictExact.{accepted_is_X}

@@ -31,7 +31,8 @@ use Rattle.x_program.specs.Tree as tree
 use Rattle.x_names.specs.Complaints as names
 use Rattle.x_names.specs.Complaints.{Complaint, complaints, least}
 use Rattle.x_names.specs.Least.{least_none, least_one}
-use Rattle.x_names.specs.Numbered.{Within, Judged, judged_within}
+use Rattle.x_names.specs.Numbered.{Within, Judged}
+use Rattle.x_names.proofs.Numbered.{judged_within}
 use Rattle.x_names.specs.Resolve.{resolve}
 use Rattle.x_verdict.specs.Symbols.{place_of, text_of, symbols, unread_place}
 use Rattle.x_verdict.specs.Deserved.{HasTokens, HasTree, Ungrammatical, Misnamed, Deserves, long_source, broken_token, large_number, long_name, many_tokens, short_table, short_code}
