@@ -18,7 +18,7 @@ use Rattle.x_names.proofs.Specified.{words_declared}
 use Rattle.x_verdict.specs.Symbols.{text_of, symbols}
 use Rattle.x_verdict.specs.Front.{accepted, front}
 use Rattle.x_verdict.specs.VerdictExact.{accepted_is_X}
-use Rattle.x_verdict.specs.Refused.{accepted_sound}
+use Rattle.x_verdict.proofs.Refused.{accepted_sound}
 use Rattle.front_names_table.specs.View.{text_at}
 use Rattle.front_analysis.specs.Arrays.{symbols_all, text_all, entries_take}
 use Rattle.text_names.specs.Names.{program_scope, token_scope, name_lines, names_of}

@@ -38,7 +38,7 @@ use Rattle.x_verdict.specs.Symbols.{place_of, text_of, symbols, unread_place}
 use Rattle.x_verdict.specs.Deserved.{HasTokens, HasTree, Ungrammatical, Misnamed, Deserves, long_source, broken_token, large_number, long_name, many_tokens, short_table, short_code}
 use Rattle.x_verdict.specs.Deserved.{ungrammatical, deep_program, not_declared, declared_twice, wrong_kind, bad_length, too_much, rank, goes_before, FirstDeserved}
 use Rattle.x_verdict.specs.Front.{Outcome, refused, accepted, judged, named, parsed, tokened, front}
-use Rattle.x_verdict.specs.Refused.{places_inside}
+use Rattle.x_verdict.proofs.Refused.{places_inside}
 
 -- ── the ranking ──
 
