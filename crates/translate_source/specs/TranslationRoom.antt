@@ -16,7 +16,7 @@ use Rattle.x_verdict.specs.Symbols.{symbols, text_of, place_of}
 use Rattle.x_verdict.specs.Front.{accepted, front}
 use Rattle.x_verdict.specs.VerdictExact.{accepted_is_X}
 use Rattle.x_verdict.specs.Count.{few_tokens}
-use Rattle.translate_rules.specs.ImageRoom.{image_room}
+use Rattle.translate_rules.proofs.ImageRoom.{image_room}
 use Rattle.translate_rules.specs.ImageCode.{image}
 use Rattle.x_names.specs.Complaints.{of_specifications, complaints}
 use Rattle.x_names.proofs.AcceptedNames.{none_right}
