@@ -22,8 +22,9 @@ use Rattle.x_names.specs.FirstComplaint.{first}
 use Rattle.x_names.specs.Resolve as resolve
 use Rattle.x_names.specs.Resolve.{declarations}
 use Rattle.x_names.specs.RowComplaints.{row_complaints, same_least}
-use Rattle.x_names.specs.ResolvedRows.{resolve_rows, count_P, rows_P}
-use Rattle.x_names.specs.Depths.{same_deepest}
+use Rattle.x_names.specs.ResolvedRows.{resolve_rows}
+use Rattle.x_names.proofs.ResolvedRows.{count_P, rows_P}
+use Rattle.x_names.proofs.Depths.{same_deepest}
 use Rattle.x_verdict.specs.Front as front
 use Rattle.x_verdict.specs.Front.{judged}
 use Rattle.x_names.specs.Least.{least_none}
@@ -35,7 +36,7 @@ use Rattle.front_names_bind.specs.declared.Progress.TheVariants as bound
 use Rattle.front_read_program.specs.Answer.{process_start}
 use Rattle.front_names_resolve.specs.ResolvingWalk.{Walked, walked, walk, walk_entries, walk_rows, scope_of, verdict, getD_sets_past}
 use Rattle.front_names_resolve.specs.declared.Found as walk_found
-use Rattle.x_names.specs.Specified.{count_declared, words_declared}
+use Rattle.x_names.proofs.Specified.{count_declared, words_declared}
 use Rattle.front_analysis.specs.Analysed.{Found}
 
 -- what is written is held

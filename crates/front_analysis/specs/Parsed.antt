@@ -24,7 +24,7 @@ use Rattle.x_names.specs.Resolve as resolve
 use Rattle.x_verdict.specs.Front as front
 use Rattle.x_verdict.specs.Symbols.{symbols, text_of}
 use Rattle.x_verdict.specs.Front.{judged, named, parsed}
-use Rattle.x_verdict.specs.Refused.{least_first_in_text}
+use Rattle.x_verdict.proofs.Refused.{least_first_in_text}
 use Rattle.front_read_program.specs.Answer.{answer, Written, process_start}
 use Rattle.front_read_program.specs.declared.Answer.TheVariants as read
 use Rattle.front_recognizer.specs.declared.Recognized.TheVariants as recognizer

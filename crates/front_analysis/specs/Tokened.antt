@@ -7,6 +7,7 @@ use Rattle.x_tokens.specs.Refusals as refusal
 use Rattle.x_tokens.specs.TokenList as token
 use Rattle.x_tokens.specs.TokenList.{Entry, outcome, entries}
 use Rattle.x_tokens.specs.SourceLaws as source_laws
+use Rattle.x_tokens.proofs.SourceLaws.{outcome_sound}
 use Rattle.x_grammar.specs.Automaton.{reads}
 use Rattle.x_program.specs.Layout.{table_room, code_room}
 use Rattle.x_verdict.specs.Symbols.{symbols}
@@ -20,7 +21,7 @@ module _ (source : List ℕ) (table code : ℕ) where
   scan_refused k p h = ap (tokened source table code) h
 
   pub small_place : (k p : ℕ) → outcome source ≡ token.refused k p → p ≤ 16384
-  small_place k p h = (subst (source_laws.Sound (length source) 0) h (source_laws.outcome_sound source)).3
+  small_place k p h = (subst (source_laws.Sound (length source) 0) h (outcome_sound source)).3
 
   module _ (ks ps vs : List ℕ) (n : ℕ) (h : outcome source ≡ token.read (entries ks ps vs 0 n)) where
     abbrev ts : List Entry

@@ -16,7 +16,7 @@ use Rattle.x_program.specs.Layout.{row_words}
 use Rattle.x_program.specs.Rows.{declared_rows}
 use Rattle.x_names.specs.Scope.{Meaning, Entry, Scope, lookup, empty_scope, meaning_of, declare, declare_all}
 use Rattle.x_names.specs.Complaints.{Complaint, Verdict, fine, refused, is_known, when, bad_length, of_specification, of_specifications}
-use Rattle.x_names.specs.AcceptedNames.{none_right}
+use Rattle.x_names.proofs.AcceptedNames.{none_right}
 use Rattle.x_names.specs.FirstComplaint.{first}
 use Rattle.x_names.specs.Resolve.{declarations}
 use Rattle.front_read_expressions.specs.Parts.{table_one}

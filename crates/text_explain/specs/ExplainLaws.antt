@@ -6,7 +6,7 @@ use Rattle.arm_word.specs.Choice.{pick}
 use Rattle.arm_word.specs.ChoiceLaws.{by_test}
 use Rattle.x_tokens.specs.TokenList as token
 use Rattle.x_verdict.specs.Front.{Outcome, refused, accepted, tokened, front}
-use Rattle.x_verdict.specs.Refused.{refusal, accepted_sound}
+use Rattle.x_verdict.proofs.Refused.{refusal, accepted_sound}
 use Rattle.arm_state.specs.State.{needed}
 use Rattle.arm_word.specs.Ascii.{ascii}
 use Rattle.text_lines.specs.Text.{fitted}

@@ -9,7 +9,8 @@ use Rattle.x_spelling.specs.Kinds as kind
 use Rattle.x_tokens.specs.TokenList as token
 use Rattle.x_tokens.specs.TokenList.{Entry}
 use Rattle.x_tokens.specs.SourceLaws as source_laws
-use Rattle.x_tokens.specs.SourceLaws.{Placed, outcome_sound}
+use Rattle.x_tokens.specs.SourceLaws.{Placed}
+use Rattle.x_tokens.proofs.SourceLaws.{outcome_sound}
 use Rattle.x_grammar.specs.Grammar.{Token, number, name, mark, Constant, literal, named, Specification, var, array, val, commented, text_process}
 use Rattle.x_grammar.specs.Grammar.{text_constant, text_specification, text_specifications}
 use Rattle.x_grammar.specs.Grammar as grammar

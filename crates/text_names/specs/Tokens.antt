@@ -14,11 +14,11 @@ use Rattle.x_grammar.specs.GrammarExact.{accepts}
 use Rattle.x_program.specs.Tree.{Program, data_words}
 use Rattle.x_names.specs.Scope.{Scope, empty_scope}
 use Rattle.x_names.specs.Resolve.{resolve}
-use Rattle.x_names.specs.Specified.{words_declared}
+use Rattle.x_names.proofs.Specified.{words_declared}
 use Rattle.x_verdict.specs.Symbols.{text_of, symbols}
 use Rattle.x_verdict.specs.Front.{accepted, front}
 use Rattle.x_verdict.specs.VerdictExact.{accepted_is_X}
-use Rattle.x_verdict.specs.Refused.{accepted_sound}
+use Rattle.x_verdict.proofs.Refused.{accepted_sound}
 use Rattle.front_names_table.specs.View.{text_at}
 use Rattle.front_analysis.specs.Arrays.{symbols_all, text_all, entries_take}
 use Rattle.text_names.specs.Names.{program_scope, token_scope, name_lines, names_of}

@@ -11,8 +11,8 @@ use Rattle.x_verdict.specs.Deserved.{Deserves, FirstDeserved}
 use Rattle.x_verdict.specs.Front.{Outcome, refused, accepted, front}
 use Rattle.x_verdict.specs.VerdictExact as exact
 use Rattle.x_verdict.specs.VerdictExact.{accepts_X}
-use Rattle.x_verdict.specs.Refused.{accepted_sound, refusal}
-use Rattle.x_verdict.specs.RefusalOrder.{refused_is_first, first_is_refused, accepted_is_spared, spared_is_accepted}
+use Rattle.x_verdict.proofs.Refused.{accepted_sound, refusal}
+use Rattle.x_verdict.proofs.RefusalOrder.{refused_is_first, first_is_refused, accepted_is_spared, spared_is_accepted}
 use Rattle.translate_rules.specs.ImageCode.{image}
 use Rattle.arm_encoding.specs.EncodingLaws.{decode_encode, encode_decode}
 use Rattle.arm_machine.specs.StepLaws.{step_kept}

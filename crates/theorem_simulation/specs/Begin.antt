@@ -15,7 +15,8 @@ use Rattle.x_program.specs.Core.{core_process}
 use Rattle.x_meaning.specs.SourceRun.{going, execute, begin}
 use Rattle.translate_rules.specs.InstructionBytes.{bytes_of, bytes}
 use Rattle.translate_rules.specs.ImageCode.{process_code, image_code, image}
-use Rattle.translate_rules.specs.Encodable.{Encodable, image_encodable}
+use Rattle.translate_rules.specs.Encodable.{Encodable}
+use Rattle.translate_rules.proofs.Encodable.{image_encodable}
 use Rattle.arm_state.specs.State.{base, needed, no_flags, fresh_of}
 use Rattle.arm_machine.specs.Placed.{once_in}
 use Rattle.x_program.specs.Sound.{Sound}

@@ -6,7 +6,6 @@ pub mod ImageCode
 pub mod CodeLaws
 pub mod Bits
 pub mod TokenCount
-pub mod ImageRoom
 pub mod Encodable
 pub mod ConstantCases
 pub mod Worked

@@ -9,7 +9,7 @@ use Rattle.x_program.specs.TableReadBack.{Holds, some_rows_process}
 use Rattle.x_program.specs.Core.{core_process}
 use Rattle.x_program.specs.Sound.{Sound}
 use Rattle.x_verdict.specs.Front.{Outcome, accepted, front}
-use Rattle.x_verdict.specs.Refused.{accepted_sound}
+use Rattle.x_verdict.proofs.Refused.{accepted_sound}
 use Rattle.front_analysis.specs.Analysed.{Found}
 use Rattle.translate_source.specs.Translate.{Translated, left, translated, translation, filled}
 use Rattle.translate_rules.specs.ImageCode.{image}

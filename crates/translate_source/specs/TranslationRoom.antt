@@ -16,13 +16,13 @@ use Rattle.x_verdict.specs.Symbols.{symbols, text_of, place_of}
 use Rattle.x_verdict.specs.Front.{accepted, front}
 use Rattle.x_verdict.specs.VerdictExact.{accepted_is_X}
 use Rattle.x_verdict.specs.Count.{few_tokens}
-use Rattle.translate_rules.specs.ImageRoom.{image_room}
+use Rattle.translate_rules.proofs.ImageRoom.{image_room}
 use Rattle.translate_rules.specs.ImageCode.{image}
 use Rattle.x_names.specs.Complaints.{of_specifications, complaints}
-use Rattle.x_names.specs.AcceptedNames.{none_right}
-use Rattle.x_names.specs.ResolvedRows.{count_P}
+use Rattle.x_names.proofs.AcceptedNames.{none_right}
+use Rattle.x_names.proofs.ResolvedRows.{count_P}
 use Rattle.x_names.specs.Scope.{Meaning, unknown, variable, array, constant, Scope, empty_scope, meaning_of, declare_all}
-use Rattle.x_names.specs.Specified.{count_declared}
+use Rattle.x_names.proofs.Specified.{count_declared}
 use Rattle.x_names.specs.Resolve as resolve
 use Rattle.x_names.specs.Resolve.{value, element_of, assigned, element_assigned}
 use Rattle.translate_rules.specs.TokenCount.{tokens_of, process_tokens, list_tokens}

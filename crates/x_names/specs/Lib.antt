@@ -4,10 +4,8 @@ pub mod Complaints
 pub mod Resolve
 pub mod AcceptedNames
 pub mod ResolvedRows
-pub mod Depths
 pub mod FirstComplaint
 pub mod Least
 pub mod ComplaintOrder
 pub mod RowComplaints
-pub mod Specified
 pub mod Numbered

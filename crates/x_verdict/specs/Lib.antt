@@ -4,6 +4,4 @@ pub mod IsX
 pub mod Deserved
 pub mod Front
 pub mod VerdictExact
-pub mod Refused
 pub mod Count
-pub mod RefusalOrder

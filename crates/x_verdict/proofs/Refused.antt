@@ -8,7 +8,8 @@ use Rattle.x_tokens.specs.Refusals as refusals
 use Rattle.x_tokens.specs.TokenList as token
 use Rattle.x_tokens.specs.TokenList.{Entry}
 use Rattle.x_tokens.specs.SourceLaws as source_laws
-use Rattle.x_tokens.specs.SourceLaws.{Placed, outcome_sound}
+use Rattle.x_tokens.specs.SourceLaws.{Placed}
+use Rattle.x_tokens.proofs.SourceLaws.{outcome_sound}
 use Rattle.x_grammar.specs.Grammar as grammar
 use Rattle.x_grammar.specs.Grammar.{Token, number, name, mark, text_program}
 use Rattle.x_grammar.specs.TokenArrays.{token_of}
@@ -21,11 +22,13 @@ use Rattle.x_program.specs.Layout.{table_room, code_room}
 use Rattle.x_names.specs.Complaints as names
 use Rattle.x_names.specs.Complaints.{complaints, Verdict, fine, least}
 use Rattle.x_names.specs.Resolve.{resolve}
-use Rattle.x_names.specs.Numbered.{Judged, judged_within}
+use Rattle.x_names.specs.Numbered.{Judged}
+use Rattle.x_names.proofs.Numbered.{judged_within}
 use Rattle.x_names.specs.FirstComplaint.{first}
 use Rattle.x_names.specs.ComplaintOrder.{names_of, Ahead, Ascending, least_is_first}
-use Rattle.x_names.specs.AcceptedNames.{Words, sound}
-use Rattle.x_names.specs.Depths.{same_deepest}
+use Rattle.x_names.specs.AcceptedNames.{Words}
+use Rattle.x_names.proofs.AcceptedNames.{sound}
+use Rattle.x_names.proofs.Depths.{same_deepest}
 use Rattle.x_verdict.specs.Symbols.{entry_at, place_of, text_of, symbols, unread_place}
 use Rattle.x_verdict.specs.Deserved.{Numbered}
 use Rattle.x_verdict.specs.Front.{Outcome, refused, accepted, judged, named, parsed, tokened, front}

@@ -15,9 +15,11 @@ use Rattle.x_tokens.specs.TokenList.{Entry}
 use Rattle.x_tokens.specs.Split.{split, Flaw, Starts}
 use Rattle.x_tokens.specs.TokenLaws.{outcome_short, outcome_long}
 use Rattle.x_tokens.specs.SplitLaws as lexical
-use Rattle.x_tokens.specs.SplitLaws.{NotBefore, by_token, by_count, Agrees, one_list, flaw_most, agree_split}
+use Rattle.x_tokens.specs.SplitLaws.{NotBefore, by_token, by_count, Agrees, one_list}
+use Rattle.x_tokens.proofs.SplitLaws.{flaw_most, agree_split}
 use Rattle.x_tokens.specs.SourceLaws as source_laws
-use Rattle.x_tokens.specs.SourceLaws.{Placed, outcome_sound}
+use Rattle.x_tokens.specs.SourceLaws.{Placed}
+use Rattle.x_tokens.proofs.SourceLaws.{outcome_sound}
 use Rattle.x_grammar.specs.Grammar.{Token, Program, IsProgram}
 use Rattle.x_grammar.specs.Automaton as automaton
 use Rattle.x_grammar.specs.Automaton.{reads}
@@ -29,13 +31,14 @@ use Rattle.x_program.specs.Tree as tree
 use Rattle.x_names.specs.Complaints as names
 use Rattle.x_names.specs.Complaints.{Complaint, complaints, least}
 use Rattle.x_names.specs.Least.{least_none, least_one}
-use Rattle.x_names.specs.Numbered.{Within, Judged, judged_within}
+use Rattle.x_names.specs.Numbered.{Within, Judged}
+use Rattle.x_names.proofs.Numbered.{judged_within}
 use Rattle.x_names.specs.Resolve.{resolve}
 use Rattle.x_verdict.specs.Symbols.{place_of, text_of, symbols, unread_place}
 use Rattle.x_verdict.specs.Deserved.{HasTokens, HasTree, Ungrammatical, Misnamed, Deserves, long_source, broken_token, large_number, long_name, many_tokens, short_table, short_code}
 use Rattle.x_verdict.specs.Deserved.{ungrammatical, deep_program, not_declared, declared_twice, wrong_kind, bad_length, too_much, rank, goes_before, FirstDeserved}
 use Rattle.x_verdict.specs.Front.{Outcome, refused, accepted, judged, named, parsed, tokened, front}
-use Rattle.x_verdict.specs.Refused.{places_inside}
+use Rattle.x_verdict.proofs.Refused.{places_inside}
 
 -- ── the ranking ──
 

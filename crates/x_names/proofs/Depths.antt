@@ -11,7 +11,7 @@ use Rattle.x_names.specs.Scope.{Meaning, unknown, variable, array, constant, Sco
 use Rattle.x_names.specs.Complaints.{as_target, as_array, at, of_specifications, of_expression, of_chain, of_operand, of_process, of_processes, complaints}
 use Rattle.x_names.specs.Resolve as resolve
 use Rattle.x_names.specs.Resolve.{value, element_of, assigned, element_assigned}
-use Rattle.x_names.specs.AcceptedNames.{none_left, none_right, none_at}
+use Rattle.x_names.proofs.AcceptedNames.{none_left, none_right, none_at}
 
 value_depth : (m : Meaning) → 1 ≡ depth (value m)
 value_depth unknown = refl
