@@ -1,4 +1,6 @@
 // The public translation: the front end into working memory, then the lent buffers, wholly written where the source is accepted, left alone where it is refused.
+#![tactic(auto)]
+
 ghost use Rattle.std.specs.Prelude.{◌≡◌, List, ℕ, ◌-◌, ◌*◌, ◌<◌, ◌≤◌, length};
 ghost use Rattle.x_program.specs.Tree as tree;
 ghost use Rattle.x_program.specs.Layout.{row_words};
