@@ -1,5 +1,7 @@
 // The C boundary: translate, start, step and run over lent slices and lent arrays of words.
 // A slice is a pointer and a length; an array is a pointer to as many words as its type says.
+#![tactic(auto)]
+
 ghost use Rattle.std.specs.Prelude.{◌≡◌};
 ghost use Rattle.arm_machine.specs.MachineRun as runs;
 ghost use Rattle.gutilamboy.specs.Calls as calls;

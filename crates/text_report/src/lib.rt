@@ -1,4 +1,6 @@
 // The report of a source: document 01's seven lines.
+#![tactic(auto)]
+
 ghost use Rattle.std.specs.Prelude.{◌≡◌};
 ghost use Rattle.text_lines.specs.Text.{written};
 ghost use Rattle.text_report.specs.Report.{answer_lines, report_of};
