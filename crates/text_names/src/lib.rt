@@ -1,4 +1,6 @@
 // The table of the names that a source declares.
+#![tactic(auto)]
+
 ghost use Rattle.std.specs.Prelude.{◌≡◌, [], ◌∷◌, ◌++◌, ◌+◌, ◌-◌, ◌<◌};
 ghost use Rattle.front_names_table.specs.View.{text_at};
 ghost use Rattle.text_lines.specs.Text.{written, fitted, decimal};

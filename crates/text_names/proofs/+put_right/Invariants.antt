@@ -1,0 +1,5 @@
+-- `text_names::put_right` calls itself on a smaller number.
+use Rattle.text_names.proofs.+put_right.Given as goal
+
+abbrev pub decreases-put_right : goal.decreases-put_right
+decreases-put_right l = l.n
