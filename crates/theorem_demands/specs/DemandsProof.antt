@@ -23,7 +23,7 @@ use Rattle.theorem_simulation.proofs.Demand3Proof as simulation
 use Rattle.theorem_simulation.specs.Demand4.{Agree, Demand4}
 use Rattle.theorem_simulation.proofs.Demand4Proof as alike
 use Rattle.theorem_walker.specs.Demand5.{Demand5}
-use Rattle.theorem_walker.specs.Demand5Proof as walker
+use Rattle.theorem_walker.proofs.Demand5Proof as walker
 use Rattle.theorem_demands.specs.Demands.{Refused, update, Demand1, Translates, XAs, Demand2, Demands}
 
 -- ── demand 1 ──
