@@ -1,7 +1,4 @@
 -- Demands 1, 2 and 3 from source bytes to machine calls.
 pub mod Demands
-pub mod DemandsProof
 pub mod Starred
-pub mod DemandsExample
 pub mod ExportedDemand
-pub mod ExportedProof

@@ -14,9 +14,4 @@ pub mod Bridge
 pub mod Demand3
 pub mod Iterated
 pub mod Concrete
-pub mod Begin
-pub mod Demand3Proof
 pub mod Demand4
-pub mod Demand4Proof
-pub mod Demand3Example
-pub mod Demand4Example

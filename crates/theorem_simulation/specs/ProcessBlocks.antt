@@ -3,14 +3,14 @@ use Rattle.std.specs.Prelude.{◌≡◌, List, [], ◌∷◌, ◌++◌, get_or, 
 use Rattle.std.proofs.Math.Path.{refl, sym}
 use Rattle.std.proofs.Common.{◌∙◌, eq-eqb, ne_eqb}
 use Rattle.std.proofs.Math.Bool.{true, false}
-use Rattle.std.proofs.Math.Option.{Option, none}
+use Rattle.std.proofs.Math.Option.{Option}
 use Prim.Native.Nat.{ℕ, suc, ◌+◌, ◌*◌, ◌-◌, ◌/◌, ◌%◌, ◌≤◌, ◌<◌}
 use native.Mathlib.Omega.{arith}
 use Rattle.std.proofs.Math.Decide.{dec_lt}
 use Rattle.arm_word.specs.Word.{modulus, add, shift_left}
 use Rattle.arm_word.specs.Access.{Access}
 use Rattle.arm_encoding.specs.declared.Instr.TheVariants.{Bne, Bl}
-use Rattle.x_program.specs.Tree.{Variable, Array, Expression, Process, skip, stop, assign, assign_element, braces, conditional, loop, Processes, none, also}
+use Rattle.x_program.specs.Tree.{Variable, Array, Expression, Process, skip, stop, assign, assign_element, braces, conditional, loop, Processes, also}
 use Rattle.x_program.specs.ProgramDepth.{deepest_of}
 use Rattle.x_program.specs.Core.{core, core_process, core_list}
 use Rattle.x_program.specs.Resolved.{ResolvedAll}

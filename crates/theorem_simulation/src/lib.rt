@@ -1,1 +1,3 @@
+#![tactic(auto)]
+
 // The simulation: the image runs as the source does. See specs/.

@@ -4,5 +4,3 @@ pub mod RowTrees
 pub mod RowRelation
 pub mod RowMoves
 pub mod Walks
-pub mod Demand5Proof
-pub mod Demand5Example

@@ -13,7 +13,7 @@ use Rattle.x_meaning.specs.SourceRun.{Item, evaluate, work₁, work₂, check, l
 use Rattle.x_meaning.specs.SourceRun.{move_expression, move_process, move_item, move_going, move_by, move, moves, ends_with}
 use Rattle.x_meaning.specs.TableRun.{State, turn_by, turn, status_of, number_of, is_going, walked, walk_from}
 use Rattle.theorem_simulation.specs.Generic.{times, times_stays}
-use Rattle.theorem_simulation.specs.Demand3Proof.{moves_times}
+use Rattle.theorem_simulation.proofs.Demand3Proof.{moves_times}
 
 -- ── ends ──
 

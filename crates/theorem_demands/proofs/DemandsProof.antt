@@ -19,11 +19,11 @@ use Rattle.arm_machine.specs.StepLaws.{step_kept}
 use Rattle.translate_source.specs.Translate.{Translated, left, zeros, answered, kept_or_filled, translated, translation}
 use Rattle.translate_source.specs.TranslationRoom.{Fits, accepted_fits}
 use Rattle.theorem_simulation.specs.Demand3.{Lent, Demand3}
-use Rattle.theorem_simulation.specs.Demand3Proof as simulation
+use Rattle.theorem_simulation.proofs.Demand3Proof as simulation
 use Rattle.theorem_simulation.specs.Demand4.{Agree, Demand4}
-use Rattle.theorem_simulation.specs.Demand4Proof as alike
+use Rattle.theorem_simulation.proofs.Demand4Proof as alike
 use Rattle.theorem_walker.specs.Demand5.{Demand5}
-use Rattle.theorem_walker.specs.Demand5Proof as walker
+use Rattle.theorem_walker.proofs.Demand5Proof as walker
 use Rattle.theorem_demands.specs.Demands.{Refused, update, Demand1, Translates, XAs, Demand2, Demands}
 
 -- ── demand 1 ──

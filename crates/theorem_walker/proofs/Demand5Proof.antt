@@ -19,7 +19,7 @@ use Rattle.translate_rules.specs.ImageCode.{image}
 use Rattle.theorem_simulation.specs.Generic as generic
 use Rattle.theorem_simulation.specs.Generic.{times, times_still}
 use Rattle.theorem_simulation.specs.Demand3.{D, Lent, run, calls, EndsBy, Demand3}
-use Rattle.theorem_simulation.specs.Demand3Proof.{moves_times, demand3}
+use Rattle.theorem_simulation.proofs.Demand3Proof.{moves_times, demand3}
 use Rattle.theorem_walker.specs.Demand5.{walk, image_run, Eventually, WalksTo, EndsAsSource, Demand5}
 use Rattle.theorem_walker.specs.RowTrees.{process_row}
 use Rattle.theorem_walker.specs.RowRelation.{done, execute, Related, between, Seen, back, seen}

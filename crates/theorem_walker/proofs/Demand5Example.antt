@@ -9,9 +9,9 @@ use Rattle.x_program.specs.ValidTable.{shape, process_shape, data_before, rows_f
 use Rattle.x_meaning.specs.SourceRun.{moves, begin, ends_with}
 use Rattle.x_meaning.specs.TableRun.{settle, begun, walk_from, walk_of}
 use Rattle.theorem_simulation.specs.Demand3.{Lent, EndsBy}
-use Rattle.theorem_simulation.specs.Demand3Example.{five, lent_words, five_image, five_sound, five_lent}
+use Rattle.theorem_simulation.proofs.Demand3Example.{five, lent_words, five_image, five_sound, five_lent}
 use Rattle.theorem_walker.specs.Demand5.{walk, image_run, Eventually, WalksTo}
-use Rattle.theorem_walker.specs.Demand5Proof as proof
+use Rattle.theorem_walker.proofs.Demand5Proof as proof
 
 -- ── var x; x := 2 + 3, over 14 words ──
 

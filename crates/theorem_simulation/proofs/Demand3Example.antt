@@ -22,7 +22,7 @@ use Rattle.arm_machine.specs.Start.{start_refusal, start_of}
 use Rattle.arm_machine.specs.Trace.{listed}
 use Rattle.x_program.specs.Sound.{Sound, here}
 use Rattle.theorem_simulation.specs.Demand3.{Each, Lent, Call, step, run, Called, call, calls, Orderly, Answered, EndsBy, tried, started, Demand3}
-use Rattle.theorem_simulation.specs.Demand3Proof.{demand3}
+use Rattle.theorem_simulation.proofs.Demand3Proof.{demand3}
 
 -- var x; x := 2 + 3
 unfoldable pub five : Program

@@ -24,7 +24,7 @@ use Rattle.translate_source.specs.Translate.{Translated, translation}
 use Rattle.theorem_simulation.specs.Demand3.{Lent, run, call, EndsBy, started, Demand3}
 use Rattle.theorem_walker.specs.Demand5.{walk, Eventually, WalksTo}
 use Rattle.theorem_demands.specs.Demands.{Translates, update}
-use Rattle.theorem_demands.specs.DemandsProof.{front_translates, image_at_front, demands}
+use Rattle.theorem_demands.proofs.DemandsProof.{front_translates, image_at_front, demands}
 
 -- its bytes, the program that they are, buffers that hold old words and bytes, and memory of the 13 needed words
 abbrev source : List ℕ

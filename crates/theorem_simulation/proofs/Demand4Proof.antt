@@ -20,8 +20,8 @@ use Rattle.theorem_simulation.specs.Abstract.{Abstract, memory_of}
 use Rattle.theorem_simulation.specs.Relation.{Setting, data_of, Limits}
 use Rattle.theorem_simulation.specs.Following.{Follower, always}
 use Rattle.theorem_simulation.specs.Concrete.{Point, step_point, Completes, SvcAt, svc_stays, Matches, carried, stopped}
-use Rattle.theorem_simulation.specs.Begin.{setting, first_point, limits, abstract_of, first_related, first_matches}
-use Rattle.theorem_simulation.specs.Demand3Proof as one
+use Rattle.theorem_simulation.proofs.Begin.{setting, first_point, limits, abstract_of, first_related, first_matches}
+use Rattle.theorem_simulation.proofs.Demand3Proof as one
 
 -- what follows a list is told by the whole
 append_cancel : {A : Type 0} (xs : List A) {ys zs : List A} → xs ++ ys ≡ xs ++ zs → ys ≡ zs

@@ -28,7 +28,7 @@ use Rattle.theorem_simulation.specs.Iterated.{most, call_is_run}
 use Rattle.theorem_simulation.specs.Demand4.{Alike, Both}
 use Rattle.gutilamboy_walker.specs.WalkCall.{walk_call}
 use Rattle.walker_run.specs.Handed.{left_by_walk}
-use Rattle.theorem_demands.specs.DemandsProof.{table_at_front, demands}
+use Rattle.theorem_demands.proofs.DemandsProof.{table_at_front, demands}
 use Rattle.theorem_demands.specs.ExportedDemand.{exported, exported_calls, first_words, InOrder, EndsSo, AtBoundary, SameLeft, leaves, Exported}
 
 -- ── what an exported call leaves, by what the call hands back ──

@@ -10,7 +10,7 @@ use Rattle.x_program.specs.Tree.{Program}
 use Rattle.x_meaning.specs.SourceRun.{State, move, moves, begin, ends_with}
 use Rattle.translate_rules.specs.ImageCode.{image}
 use Rattle.arm_state.specs.State.{fresh_of}
-use Rattle.arm_state.specs.Effects.{Effect, ended}
+use Rattle.arm_state.specs.Effects.{Effect}
 use Rattle.arm_state.specs.declared.Machine.{Machine}
 use Rattle.arm_machine.specs.Step.{refusal_of, step_of}
 use Rattle.arm_machine.specs.MachineRun.{RunAfter, run_after, ran, run_from, run_of}
@@ -25,7 +25,7 @@ use Rattle.theorem_simulation.specs.Straight.{address}
 use Rattle.theorem_simulation.specs.Relation.{Setting, data_of}
 use Rattle.theorem_simulation.specs.Following.{Simulated, Follower, always, arrives}
 use Rattle.theorem_simulation.specs.Concrete.{Point, effect_at, step_point, svc_stays, Halts, Does, Seen, Matches, follower, ended_point, simulated_trace}
-use Rattle.theorem_simulation.specs.Begin.{setting, first_point, limits, first_simulated}
+use Rattle.theorem_simulation.proofs.Begin.{setting, first_point, limits, first_simulated}
 
 -- the source's moves, as the generic part counts them
 pub moves_times : (j : ℕ) (s : State) → times move j s ≡ moves j s

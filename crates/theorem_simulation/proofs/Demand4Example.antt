@@ -5,9 +5,9 @@ use Rattle.x_program.specs.Tree.{Program, data_words}
 use Rattle.translate_rules.specs.ImageCode.{image}
 use Rattle.arm_machine.specs.MachineRun.{RunAfter, run_of}
 use Rattle.theorem_simulation.specs.Demand3.{D, Lent, run, tried, call, calls, trace_of, started}
-use Rattle.theorem_simulation.specs.Demand3Example.{five, lent_words, five_image, five_sound, five_lent}
+use Rattle.theorem_simulation.proofs.Demand3Example.{five, lent_words, five_image, five_sound, five_lent}
 use Rattle.theorem_simulation.specs.Demand4.{Agree, Alike, Demand4}
-use Rattle.theorem_simulation.specs.Demand4Proof.{demand4}
+use Rattle.theorem_simulation.proofs.Demand4Proof.{demand4}
 
 -- ── a single run: the request's own words, by the run's definition ──
 
