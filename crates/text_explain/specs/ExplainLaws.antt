@@ -1,5 +1,5 @@
 -- What the answer of a translation tells of the source, and how long an explanation is. Laws; assumes nothing.
-use Rattle.std.specs.Prelude.{◌≡◌, refl, Bool, true, false, List, ◌++◌, ℕ, ◌+◌, ◌≤◌, eqb, leb, length}
+use Rattle.std.specs.Prelude.{◌≡◌, refl, Bool, true, false, List, ◌++◌, ℕ, ◌≤◌, eqb, leb, length}
 use Rattle.std.proofs.Common.{sym, ◌∙◌, arith, length-append, length-take, take_all, leb-true}
 use Rattle.std.proofs.Math.Path.{ap}
 use Rattle.arm_word.specs.Choice.{pick}

@@ -1,4 +1,6 @@
 // The explanation of a source, for rule authors: sizes and names of an accepted one, place and reason of a refused one.
+#![tactic(auto)]
+
 ghost use Rattle.std.specs.Prelude.{◌≡◌, ◌≤◌, min, length};
 ghost use Rattle.text_lines.specs.Text.{written};
 ghost use Rattle.text_buffer.specs.Buffer.{left, placed, overwritten};

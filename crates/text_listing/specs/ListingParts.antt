@@ -3,7 +3,7 @@ use Rattle.std.specs.Prelude.{◌≡◌, List, ◌++◌, ℕ, ◌+◌, ◌-◌, 
 use Rattle.std.proofs.Math.Path.{refl, sym, ap}
 use Rattle.std.proofs.Common.{◌∙◌, arith, take_at}
 use Rattle.std.proofs.Math.ListN.{length, take, length-append}
-use Rattle.x_verdict.specs.Front.{Outcome, refused, accepted, front}
+use Rattle.x_verdict.specs.Front.{Outcome, refused, accepted}
 use Rattle.x_verdict.proofs.Refused.{refusal}
 use Rattle.translate_rules.specs.ImageCode.{image}
 use Rattle.arm_machine.specs.Step.{half_at}

@@ -1,4 +1,6 @@
 // The listing of a source: the lines of its image, or its report where it is refused.
+#![tactic(auto)]
+
 ghost use Rattle.std.specs.Prelude.{◌≡◌, ◌<◌, ◌≤◌, min, length, get_or};
 ghost use Rattle.arm_machine.specs.Step.{half_at};
 ghost use Rattle.text_disassembly.specs.ImageLines.{text_from};
