@@ -1,8 +1,7 @@
 -- What the levels say of a program: where none reached the limit of depth it nests within that limit, and where one did it is too deep. Laws; assume nothing.
 -- One walk over the automaton's moves shows both: a move to a level below the limit keeps the nesting within it, and no move makes a tree that is too deep less so.
 use Rattle.std.specs.Prelude.{◌≡◌, refl, Bool, true, false, List, [], ℕ, zero, suc, ◌+◌, ◌<◌, ◌≤◌, max, min, eqb, ltb}
-use Rattle.std.proofs.Common.{sym, ap, subst, ◌∙◌, arith, ne_eqb, eqb-true, ltb-true, ltb-false}
-use Rattle.std.proofs.lemmas.Bool.{eqb-false}
+use Rattle.std.proofs.Common.{subst, arith, ltb-true, ltb-false}
 use Rattle.arm_word.specs.Choice.{pick}
 use Rattle.arm_word.specs.ChoiceLaws.{by_test}
 use Rattle.x_spelling.specs.Kinds as kind
@@ -18,10 +17,10 @@ use Rattle.x_grammar.specs.Automaton.{step_partial, step_front, step, Reading, a
 use Rattle.x_grammar.specs.TreeDepth.{depth_process, depth_processes, depth, deepest, depth_limit, too_deep}
 use Rattle.x_grammar.specs.Nesting.{nesting_process, nesting_processes, nesting_expression, nesting_chain, nesting_operand, within_process, within_processes, nesting}
 use Rattle.x_grammar.proofs.NestingLaws.{nests_within}
-use Rattle.front_recognizer.specs.Pushdown.{configuration, counted, deep_by, level_process, level_list, level_expression, level_operand, level_chain}
+use Rattle.front_recognizer.specs.Pushdown.{configuration, counted, level_process, level_list, level_expression, level_operand, level_chain}
 
 -- within the limit
-abbrev Low : ℕ → Type 0
+abbrev pub Low : ℕ → Type 0
 Low n = n ≤ depth_limit
 
 -- ── what was read is within the limit: processes by the number `of` (their nesting, or their depth), expressions by their nesting ──
@@ -125,7 +124,7 @@ abbrev Shallow : State → Type 0
 Shallow s = Within depth_process s × Ahead s
 
 -- a state's level, before it is counted
-abbrev level : State → ℕ
+abbrev pub level : State → ℕ
 level (at_front b n) = 0
 level (specifying b n x) = 0
 level (need_process c) = level_process c
@@ -141,10 +140,10 @@ level (have_expression e c) = 0
 
 -- ── the moves ──
 -- the nesting stays within the limit where the new level is below it; and a tree that is not too deep comes from one that is not
-abbrev Moved : State → State → Type 0
+abbrev pub Moved : State → State → Type 0
 Moved s s' = (Nests s → Low (suc (level s')) → Nests s') × (Shallow s' → Shallow s)
 
-abbrev To : State → Move → Type 0
+abbrev pub To : State → Move → Type 0
 To s none = Unit {0}
 To s (go s') = Moved s s'
 
@@ -318,7 +317,7 @@ from_partial b n (val_named x) t = either_way (specifying b n (val_named x)) (is
 from_partial b n (val_equated x) t = at_constant (specifying b n (val_equated x)) (λ c. go (specifying b n (whole (val x c)))) t (λ c. (λ h l. tt, λ h. h))
 from_partial b n (whole s) t = either_way (specifying b n (whole s)) (is kind.semicolon t) _ none (λ h l. tt, λ h. h) tt
 
-to : (s : State) (t : Token) → To s (step s t)
+pub to : (s : State) (t : Token) → To s (step s t)
 to (at_front b n) t = from_front b n t
 to (specifying b n x) t = from_partial b n x t
 to (need_process c) t = from_process c t
@@ -389,13 +388,13 @@ at_end (have_operand a c) = at_operand c a
 at_end (have_expression e c) = at_expression c e
 
 -- ── a level, as it is counted ──
-counts : (l : ℕ) → counted l ≡ min l depth_limit
+pub counts : (l : ℕ) → counted l ≡ min l depth_limit
 counts zero = refl
 counts (suc l) =
     by_test (λ (b : Bool). pick b (counted l + 1) depth_limit ≡ min (suc l) depth_limit) (ltb (counted l) depth_limit)
     (λ h. omega (arith, counts l, ltb-true (counted l) depth_limit h)) (λ h. omega (arith, counts l, ltb-false (counted l) depth_limit h))
 
-counts_level : (s : State) → (configuration s).level ≡ counted (level s)
+pub counts_level : (s : State) → (configuration s).level ≡ counted (level s)
 counts_level (at_front b n) = refl
 counts_level (specifying b n x) = refl
 counts_level (need_process c) = refl
@@ -415,7 +414,7 @@ one_operand (variable n) = omega arith
 one_operand (element n e) = omega arith
 one_operand (bracketed e) = omega arith
 
-shallow_level : (s : State) → Shallow s → Low (suc (level s))
+pub shallow_level : (s : State) → Shallow s → Low (suc (level s))
 shallow_level (at_front b n) h = omega arith
 shallow_level (specifying b n x) h = omega arith
 shallow_level (need_process c) h = h.1
@@ -436,28 +435,6 @@ Levels true s = Shallow s → ⊥
 
 pub levels_first : Levels false (at_front [] 0)
 levels_first = tt
-
-at_limit : (deep : Bool) → deep_by deep depth_limit ≡ true
-at_limit deep = refl
-
-elsewhere : (deep : Bool) (l : ℕ) → (l ≡ depth_limit → ⊥) → deep_by deep l ≡ deep
-elsewhere deep l h = rw (ne_eqb l depth_limit h)
-
-module _ (s s' : State) (t : Token) (e : step s t ≡ go s') where
-  moved : Moved s s'
-  moved = subst (To s) e (to s t)
-
-  reached : (deep : Bool) → (configuration s').level ≡ depth_limit → Levels (deep_by deep (configuration s').level) s'
-  reached deep q = subst (λ (b : Bool). Levels b s') (sym (ap (deep_by deep) q ∙ at_limit deep)) (λ x. omega (arith, q, counts_level s', counts (level s'), shallow_level s' x))
-
-  below : (deep : Bool) → Low (suc (level s')) → Levels deep s → Levels deep s'
-  below false b h = moved.0 h b
-  below true b h = λ x. h (moved.1 x)
-
-  pub levels_next : (deep : Bool) → Levels deep s → Levels (deep_by deep (configuration s').level) s'
-  levels_next deep h =
-      by_test (λ (b : Bool). Levels (deep_by deep (configuration s').level) s') (eqb (configuration s').level depth_limit) (λ q. reached deep (eqb-true _ _ q))
-      (λ q. let n = eqb-false _ _ q in subst (λ (b : Bool). Levels b s') (sym (elsewhere deep (configuration s').level n)) (below deep (omega (arith, n, counts_level s', counts (level s'))) h))
 
 module _ (s : State) (p : Program) (e : final s ≡ accepted p) where
   ends : At s (accepted p)

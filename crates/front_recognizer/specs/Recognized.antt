@@ -1,23 +1,23 @@
 -- What the recognizer's answer says of the tokens, and why. Definitions and laws; rests on Follows and Levels.
-use Rattle.std.specs.Prelude.{◌≡◌, Bool, true, false, ℕ, ◌+◌, ◌<◌, ◌≤◌, max, length, get_or}
+use Rattle.std.specs.Prelude.{◌≡◌, Bool, true, false, ℕ, ◌+◌, ◌<◌, ◌≤◌, max, length}
 use Rattle.std.proofs.Math.Path.{refl, ap, subst}
-use Rattle.std.proofs.Common.{sym, ◌∙◌, arith}
-use mathlib.Core.List.{List, [], ◌∷◌}
+use Rattle.std.proofs.Common.{◌∙◌, arith}
+use mathlib.Core.List.{List, []}
 use Rattle.arm_word.specs.Choice.{pick}
 use Rattle.x_grammar.specs.Grammar.{Token, Program}
 use Rattle.x_grammar.specs.Automaton.{Partial, var_read, array_read, array_named, array_opened, array_sized, val_read, val_named, val_equated, whole, State, at_front, specifying, need_process}
-use Rattle.x_grammar.specs.Automaton.{brace_opened, target, target_element, have_process, need_expression, need_operand, name_read, have_operand, have_expression, Move, go, none, step, Reading}
-use Rattle.x_grammar.specs.Automaton.{accepted, refused, final, onward, run, reads}
-use Rattle.x_grammar.specs.TokenArrays.{token_of, unread}
-use Rattle.x_grammar.specs.Unread.{unread_cons, unread_end, length_unread}
+use Rattle.x_grammar.specs.Automaton.{brace_opened, target, target_element, have_process, need_expression, need_operand, name_read, have_operand, have_expression, Reading}
+use Rattle.x_grammar.specs.Automaton.{accepted, refused, final, run, reads}
+use Rattle.x_grammar.specs.TokenArrays.{unread}
+use Rattle.x_grammar.specs.Unread.{unread_end}
 use Rattle.x_grammar.specs.TreeDepth.{depth, deepest, depth_limit}
 use Rattle.x_grammar.specs.Nesting.{Bounded}
 use Rattle.front_recognizer.specs.declared.Recognized.{Recognized}
 use Rattle.front_recognizer.specs.declared.Recognized.TheVariants as answer
 use Rattle.front_recognizer.specs.Modes as mode
-use Rattle.front_recognizer.specs.Pushdown.{Configuration, at, no_operator, configuration, mode_partial, advance, doing, complete, deep_by}
-use Rattle.front_recognizer.specs.Follows.{Agrees, follows, Ends, finishes}
-use Rattle.front_recognizer.specs.Levels.{Levels, levels_first, levels_next, levels_nest, levels_deep}
+use Rattle.front_recognizer.specs.Pushdown.{Configuration, at, no_operator, configuration, mode_partial, complete}
+use Rattle.front_recognizer.specs.Follows.{Ends, finishes}
+use Rattle.front_recognizer.specs.Levels.{Levels, levels_first, levels_nest, levels_deep}
 
 -- no state is refused
 partial_not_refused : (x : Partial) → mode_partial x ≡ mode.refused → ⊥
@@ -31,7 +31,7 @@ partial_not_refused (val_named x) e = omega (arith, e)
 partial_not_refused (val_equated x) e = omega (arith, e)
 partial_not_refused (whole s) e = omega (arith, e)
 
-not_refused : (s : State) → (configuration s).mode ≡ mode.refused → ⊥
+pub not_refused : (s : State) → (configuration s).mode ≡ mode.refused → ⊥
 not_refused (at_front b n) e = omega (arith, e)
 not_refused (specifying b n x) e = partial_not_refused x e
 not_refused (need_process c) e = omega (arith, e)
@@ -65,39 +65,6 @@ module _ (kinds values : List ℕ) where
   pub stands_first : Stands 0 (at mode.front no_operator 0 []) false
   unfolding reads
   stands_first = record { state = at_front [] 0; same = refl; comes = refl; levels = levels_first }
-
-  module _ (i : ℕ) (b : i < length kinds) (c c' : Configuration) (deep : Bool) (h : Stands i c deep) (e : c' ≡ advance c (get_or kinds i 0)) where
-    abbrev t : Token
-    t = token_of i (get_or kinds i 0) (get_or values i 0)
-
-    onto : Agrees (step h.state t) (doing c (get_or kinds i 0)) c.stack
-    onto = subst (λ (d : Configuration). Agrees (step h.state t) (doing d (get_or kinds i 0)) d.stack) h.same (follows h.state i (get_or kinds i 0) (get_or values i 0))
-
-    after : (m : Move) → step h.state t ≡ m → reads (unread kinds values 0) ≡ onward m (unread kinds values i) (run (unread kinds values (i + 1)))
-    unfolding run
-    after m q = h.comes ∙ ap (λ (w : List Token). run w h.state) (unread_cons kinds values i b)
-        ∙ ap (λ (m : Move). onward m (t ∷ unread kinds values (i + 1)) (run (unread kinds values (i + 1)))) q
-        ∙ ap (λ (w : List Token). onward m w (run (unread kinds values (i + 1)))) (sym (unread_cons kinds values i b))
-
-    pub stands_bad : c'.mode ≡ mode.refused → Says (length kinds) (reads (unread kinds values 0)) (answer.Bad i)
-    stands_bad z = by (step h.state t) refl onto
-      where
-        by : (m : Move) → step h.state t ≡ m → Agrees m (doing c (get_or kinds i 0)) c.stack → Says (length kinds) (reads (unread kinds values 0)) (answer.Bad i)
-        by none q g = (unread kinds values i, after none q, omega (arith, b, length_unread kinds values i))
-        by (go s) q g = absurd (not_refused s (ap (λ (d : Configuration). d.mode) (sym g ∙ sym e) ∙ z))
-
-    pub stands_next : ¬ (c'.mode ≡ mode.refused) → Stands (i + 1) c' (deep_by deep c'.level)
-    stands_next z = by (step h.state t) refl onto
-      where
-        by : (m : Move) → step h.state t ≡ m → Agrees m (doing c (get_or kinds i 0)) c.stack → Stands (i + 1) c' (deep_by deep c'.level)
-        by none q g = absurd (z (ap (λ (d : Configuration). d.mode) e ∙ g))
-        by (go s) q g =
-            record {
-              state = s;
-              same = sym g ∙ sym e;
-              comes = after (go s) q;
-              levels = subst (λ (d : Configuration). Levels (deep_by deep d.level) s) (sym g ∙ sym e) (levels_next h.state s t q deep h.levels);
-            }
 
   pub stands_last : (i : ℕ) (c : Configuration) (deep : Bool) → Stands i c deep → i ≤ length kinds → length kinds ≤ i → Says (length kinds) (reads (unread kinds values 0)) (ended (complete c) deep i)
   unfolding run

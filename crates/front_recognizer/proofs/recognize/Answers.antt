@@ -5,7 +5,8 @@ use lib.ListN.{length}
 use native.Mathlib.Omega.{arith}
 use Rattle.front_recognizer.specs.Pushdown.{frames, ends_at}
 use Rattle.front_recognizer.specs.Stack.{length_frames}
-use Rattle.front_recognizer.specs.Recognized.{Says, ended, stands_first, stands_bad, stands_next, stands_last}
+use Rattle.front_recognizer.specs.Recognized.{Says, ended, stands_first, stands_last}
+use Rattle.front_recognizer.proofs.Standing.{stands_bad, stands_next}
 use Rattle.x_grammar.specs.Automaton.{reads}
 use Rattle.x_grammar.specs.TokenArrays.{unread}
 use Rattle.front_recognizer.proofs.recognize.Goals as goal

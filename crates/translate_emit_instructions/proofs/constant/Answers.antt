@@ -7,30 +7,29 @@ use Rattle.translate_emit_instructions.specs.Write.{first, rest, then}
 use Rattle.translate_emit_instructions.proofs.constant.Goals as goal
 
 pub put-requires : goal.put-requires
-put-requires c = rw (constant_byte _ _ c.if-w-lt256.true) at c.requires
+put-requires c = rw (constant_byte c.args.d c.args.w (omega arith)) at c.requires
 
 pub returns-then-w-lt256 : goal.returns-then-w-lt256
-returns-then-w-lt256 c = rw (constant_byte _ _ c.if-w-lt256.true) c.put.ensures
+returns-then-w-lt256 c = rw (constant_byte c.args.d c.args.w (omega arith)) c.put.ensures
 
 pub overflow_cast-w-then-w-below-ge24 : goal.overflow_cast-w-then-w-below-ge24
 overflow_cast-w-then-w-below-ge24 c = record { fits = span_byte c.args.w (omega arith) (omega arith) c.if-w-below-ge24.true }
 
 pub put_two-requires : goal.put_two-requires
-put_two-requires c = rw (constant_span _ _ c.if-w-lt256.false c.if-w-below-ge24.true) at c.requires
+put_two-requires c = rw (constant_span _ _ (omega arith) c.if-w-below-ge24.true) at c.requires
 
 pub returns-then-w-below-ge24 : goal.returns-then-w-below-ge24
-returns-then-w-below-ge24 c = rw (constant_span _ _ c.if-w-lt256.false c.if-w-below-ge24.true) c.put_two.ensures
+returns-then-w-below-ge24 c = rw (constant_span _ _ (omega arith) c.if-w-below-ge24.true) c.put_two.ensures
 
 pub put_four-next-requires : goal.put_four-next-requires
-put_four-next-requires c = first _ (rw (constant_long _ _ c.if-w-lt256.false c.if-w-below-ge24.false) at c.requires)
+put_four-next-requires c = first _ (rw (constant_long _ _ (omega arith) c.if-w-below-ge24.false) at c.requires)
 
 pub put_three-requires : goal.put_three-requires
 put_three-requires c =
-    let if2 = c.if-w-below-ge24 in let if1 = c.if-w-lt256 in
-    rest c.put_four-next.ensures (rw (constant_long _ _ if1.false if2.false) at c.requires)
+    let if2 = c.if-w-below-ge24 in
+    rest c.put_four-next.ensures (rw (constant_long _ _ (omega arith) if2.false) at c.requires)
 
 pub returns : goal.returns
 returns c =
     let put_four = c.put_four-next in let if2 = c.if-w-below-ge24 in
-    let if1 = c.if-w-lt256 in
-    rw (constant_long _ _ if1.false if2.false) (then put_four.ensures c.put_three.ensures)
+    rw (constant_long _ _ (omega arith) if2.false) (then put_four.ensures c.put_three.ensures)

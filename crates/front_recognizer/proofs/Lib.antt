@@ -1,0 +1,3 @@
+-- Laws that rest on the definitions of specs/.
+pub mod Levels
+pub mod Standing
