@@ -42,24 +42,32 @@ pub fn no_complaints(complaints: &[String]) {
 
 // ── docs/DEMANDS.md ──
 
-/// The file that `crate/File` stands for.
-fn file_of(part: &str) -> Option<String> {
+/// The files that `crate/File` stands for: of definitions and laws, of laws alone, or both.
+fn files_of(part: &str) -> Option<Vec<String>> {
     let (name, file) = part.split_once('/')?;
     let plain = |c: char| c.is_ascii_lowercase() || c == '_';
     let is_file =
         file.starts_with(|c: char| c.is_ascii_uppercase()) && file.chars().all(char::is_alphanumeric);
-    (name.chars().all(plain) && is_file).then(|| format!("crates/{name}/specs/{file}.antt"))
+    let places = ["specs", "proofs"].map(|place| format!("crates/{name}/{place}/{file}.antt"));
+    let there = places.into_iter().filter(|path| repository().join(path).exists());
+    (name.chars().all(plain) && is_file).then(|| there.collect())
 }
 
-/// All files below a folder.
+/// All files below a folder, but what `rt` keeps in `out/`.
 pub fn files_below(folder: &Path) -> Vec<PathBuf> {
     let entries = read_dir(folder).unwrap_or_else(|error| panic!("{}: {error}", folder.display()));
     let mut paths: Vec<PathBuf> = entries.map(|entry| entry.expect("a file").path()).collect();
     paths.sort();
+    paths.retain(|path| !path.ends_with("out"));
     paths.into_iter().flat_map(|path| if path.is_dir() { files_below(&path) } else { vec![path] }).collect()
 }
 
-/// Words of definitions, code and tests, and names of files and folders.
+/// Whether a file has a proof of a function, and not laws.
+pub fn proves_a_function(path: &str) -> bool {
+    path.split_once("/proofs/").is_some_and(|(_, rest)| rest.contains('/'))
+}
+
+/// Words of definitions, laws, code and tests, and names of files and folders.
 fn known_words() -> BTreeSet<String> {
     let mut words = BTreeSet::new();
     let tests = ["tests/src", "tests/tests", "tests/reference/src", "tests/reference/tests"];
@@ -68,7 +76,7 @@ fn known_words() -> BTreeSet<String> {
             let parts = path.iter().map(|part| part.to_string_lossy());
             words.extend(parts.map(|part| part.split('.').next().expect("a name").to_string()));
             let read = matches!(path.extension().and_then(|e| e.to_str()), Some("antt" | "rt" | "rs"));
-            if read && !path.to_string_lossy().contains("/proofs/") {
+            if read && !proves_a_function(&path.to_string_lossy()) {
                 let text = read_to_string(&path).expect("a text");
                 words.extend(text.split(|c| !within_a_name(c)).map(String::from));
             }
@@ -98,11 +106,11 @@ fn demands_name_what_exists() {
                     missing.push(format!("{word} of {part} is nowhere"));
                 }
             }
-            if let Some(path) = file_of(part) {
-                let held = read_to_string(repository().join(path)).unwrap_or_else(|error| {
-                    missing.push(format!("{part}: {error}"));
-                    String::new()
-                });
+            if let Some(paths) = files_of(part) {
+                if paths.is_empty() {
+                    missing.push(format!("{part} is no file"));
+                }
+                let held: String = paths.iter().map(|path| read(path)).collect();
                 files += 1;
                 // `name`, `name` (`crate/File`)
                 if before == " (" {

@@ -6,7 +6,7 @@
 //! and the lists of `use`. Names are looked up as the file's own, then as its imports; a variable of the same name hides
 //! what it hides, so that a little too much counts as used, never too little.
 
-use crate::documents::{files_below, no_complaints, quoted, read};
+use crate::documents::{files_below, no_complaints, proves_a_function, quoted, read};
 use crate::{print, repository};
 use std::collections::{BTreeMap, BTreeSet};
 use std::fs::read_to_string;
@@ -359,8 +359,8 @@ fn read_all(texts: &BTreeMap<String, String>) -> Files {
 fn documented(files: &Files) -> Vec<Key> {
     let documents = read("README.md") + &read("docs/DEMANDS.md");
     let names: BTreeSet<&str> = quoted(&documents).into_iter().map(|(_, name)| name).collect();
-    let specs = files.iter().filter(|(path, _)| path.contains("/specs/"));
-    specs
+    let stated = files.iter().filter(|(path, _)| path.ends_with(".antt") && !proves_a_function(path));
+    stated
         .flat_map(|(path, held)| held.definitions.keys().map(|name| (path.clone(), name.clone())))
         .filter(|(_, name)| names.contains(name.as_str()))
         .collect()
@@ -383,7 +383,11 @@ fn kept(files: &Files, list: &str) -> Vec<Key> {
             }
             None => {
                 let (folder, file) = parts[1].split_once('/').unwrap_or_else(|| panic!("no file: {line}"));
-                (format!("crates/{folder}/specs/{file}.antt"), parts[3].to_string())
+                let [specs, proofs] =
+                    ["specs", "proofs"].map(|place| format!("crates/{folder}/{place}/{file}.antt"));
+                let in_proofs =
+                    files.get(&proofs).is_some_and(|held| held.definitions.contains_key(parts[3]));
+                (if in_proofs { proofs } else { specs }, parts[3].to_string())
             }
         }
     };
