@@ -8,15 +8,15 @@ use Rattle.arm_encoding.proofs.put.Goals as goal
 
 pub returns-then-a-high : goal.returns-then-a-high
 unfolding put
-returns-then-a-high c = c.refused.ensures ∙ simp (le-ltb _ _ c.if-a-high.true)
+returns-then-a-high c = simp (le-ltb _ _ c.if-a-high.true)
 
 pub returns-then-b-middle : goal.returns-then-b-middle
 unfolding put
-returns-then-b-middle c = c.refused-then-b-middle.ensures ∙ simp (lt-ltb _ _ c.if-a-high.false, le-ltb _ _ c.if-b-middle.true)
+returns-then-b-middle c = simp (lt-ltb _ _ c.if-a-high.false, le-ltb _ _ c.if-b-middle.true)
 
 pub returns-then-c-low : goal.returns-then-c-low
 unfolding put
-returns-then-c-low c = c.refused-then-c-low.ensures ∙ simp (lt-ltb _ _ c.if-a-high.false, lt-ltb _ _ c.if-b-middle.false, le-ltb _ _ c.if-c-low.true)
+returns-then-c-low c = simp (lt-ltb _ _ c.if-a-high.false, lt-ltb _ _ c.if-b-middle.false, le-ltb _ _ c.if-c-low.true)
 
 pub returns : goal.returns
 returns c = sym (put_one (form c.args.base c.args.high c.args.middle c.args.low) _ _ _ c.if-a-high.false c.if-b-middle.false c.if-c-low.false)
