@@ -20,14 +20,14 @@ returns-in_default c =
     rw (lt-leb _ _ c.if-i-code.false) (ap (data_word x.memory.now) (sym c.in_default.is ∙ c.slot_of.ensures))
 
 pub offset_bounds-memory-j : goal.offset_bounds-memory-j
-offset_bounds-memory-j c = let l = slot_lt _ _ _ (sym c.slot_of.ensures ∙ c.in-At.is) in search rules
+offset_bounds-memory-j c = let l = slot_lt _ _ _ (sym c.slot_of.ensures ∙ c.in-Some.is) in search rules
 
 pub bounds-memory-j : goal.bounds-memory-j
-bounds-memory-j c = slot_lt _ _ _ (sym c.slot_of.ensures ∙ c.in-At.is)
+bounds-memory-j c = slot_lt _ _ _ (sym c.slot_of.ensures ∙ c.in-Some.is)
 
 pub returns : goal.returns
 unfolding word_at
 returns c =
     let slot_of = c.slot_of in let if1 = c.if-i-code in
     let x = c.args in
-    rw (lt-leb _ _ if1.false) (ap (data_word x.memory.now) (sym c.in-At.is ∙ slot_of.ensures))
+    rw (lt-leb _ _ if1.false) (ap (data_word x.memory.now) (sym c.in-Some.is ∙ slot_of.ensures))
