@@ -16,7 +16,7 @@ use arm_word::{
 };
 
 // The flags of Armv6-M's manual: negative, zero, carry, overflow.
-#[derive(Clone, Copy)]
+#[derive(Clone, Copy, Default, PartialEq, Eq)]
 pub struct Flags {
     pub n: bool,
     pub z: bool,
@@ -24,7 +24,7 @@ pub struct Flags {
     pub v: bool,
 }
 
-#[derive(Clone, Copy)]
+#[derive(Clone, Copy, Default, PartialEq, Eq)]
 pub struct Machine {
     pub regs: [u32; 8],
     pub sp: u32,
@@ -154,7 +154,7 @@ impl Machine {
             sp: add(Machine::DATA_BASE, bytes),
             lr: 0,
             pc: 0,
-            flags: no_flags(),
+            flags: Flags::default(),
         }
     }
 
@@ -162,47 +162,7 @@ impl Machine {
     pub fn zeros() -> Machine
         ensures { result ≡ state.zeros }
     {
-        Machine {
-            regs: [0; 8],
-            sp: 0,
-            lr: 0,
-            pc: 0,
-            flags: no_flags(),
-        }
-    }
-
-    // The same state as a run holds it.
-    pub fn core(self) -> Core
-        ensures { core.whole result ≡ self }
-    {
-        let r = self.regs;
-        let flags = self.flags;
-        Core {
-            r0: r[0],
-            r1: r[1],
-            r2: r[2],
-            r3: r[3],
-            r4: r[4],
-            r5: r[5],
-            r6: r[6],
-            r7: r[7],
-            sp: self.sp,
-            lr: self.lr,
-            pc: self.pc,
-            flags,
-        }
-    }
-}
-
-// All four 0.
-fn no_flags() -> Flags
-    ensures { result ≡ state.no_flags }
-{
-    Flags {
-        n: false,
-        z: false,
-        c: false,
-        v: false,
+        Machine::default()
     }
 }
 
@@ -231,23 +191,47 @@ fn choose(test: bool, a: u32, b: u32) -> u32
     if test { a } else { b }
 }
 
-impl Core {
-    // The same state as callers hold it.
-    pub fn whole(self) -> Machine
-        ensures { result ≡ core.whole self }
-    {
-        let flags = self.flags;
-        Machine {
-            regs: [
-                self.r0, self.r1, self.r2, self.r3, self.r4, self.r5, self.r6, self.r7,
-            ],
-            sp: self.sp,
-            lr: self.lr,
-            pc: self.pc,
-            flags,
+// The same state as a run holds it.
+impl From<Machine> for Core {
+    ghost from_gives = { λ m c. core.whole c ≡ m };
+
+    fn from(machine: Machine) -> Core {
+        let r = machine.regs;
+        Core {
+            r0: r[0],
+            r1: r[1],
+            r2: r[2],
+            r3: r[3],
+            r4: r[4],
+            r5: r[5],
+            r6: r[6],
+            r7: r[7],
+            sp: machine.sp,
+            lr: machine.lr,
+            pc: machine.pc,
+            flags: machine.flags,
         }
     }
+}
 
+// The same state as callers hold it.
+impl From<Core> for Machine {
+    ghost from_gives = { λ c m. m ≡ core.whole c };
+
+    fn from(core: Core) -> Machine {
+        Machine {
+            regs: [
+                core.r0, core.r1, core.r2, core.r3, core.r4, core.r5, core.r6, core.r7,
+            ],
+            sp: core.sp,
+            lr: core.lr,
+            pc: core.pc,
+            flags: core.flags,
+        }
+    }
+}
+
+impl Core {
     // r0 to r3, or v.
     fn low(self, r: u8, v: u32) -> u32
         ensures { result ≡ core.low self r v }
@@ -479,24 +463,13 @@ fn slot_of(a: u32, n: usize) -> Option<usize>
     if i < n { Some(i) } else { None }
 }
 
-fn byte(code: &[u8], i: usize) -> u32
-    requires { i < length code.now }
-    ensures { (result ≡ get_or code.now i 0) × (result < 256) }
-{
-    code[i] as u32
-}
-
 // The word at an address, of code or of data.
 fn word_at(code: &[u8], memory: &[u32], a: u32) -> Option<u32>
     ensures { result ≡ lookup.word_at code.now memory.now a }
 {
     let i = a as usize;
     if i + 4 <= code.len() {
-        let w = byte(code, i)
-            + 256 * byte(code, i + 1)
-            + 65536 * byte(code, i + 2)
-            + 16777216 * byte(code, i + 3);
-        return Some(w);
+        return Some(u32::from_le_bytes([code[i], code[i + 1], code[i + 2], code[i + 3]]));
     }
     let Some(j) = slot_of(a, memory.len()) else {
         return None;
