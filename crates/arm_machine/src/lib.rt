@@ -1,7 +1,7 @@
 // The machine's public calls: start, step, run.
 #![tactic(auto)]
 
-ghost use Rattle.std.specs.Prelude.{◌≡◌, ◌+◌, ◌<◌, ◌≤◌, length, get_or};
+ghost use Rattle.std.specs.Prelude.{◌≡◌, ◌+◌, ◌<◌, ◌≤◌, length};
 ghost use Rattle.arm_classes.specs.Classes as classes;
 ghost use Rattle.arm_state.specs.MachineCore as cores;
 ghost use Rattle.arm_state.specs.Effects as exec_spec;
@@ -56,18 +56,12 @@ impl Refusal {
     }
 }
 
-fn byte(code: &[u8], i: usize) -> u32
-    requires { i < length code.now }
-    ensures { (result ≡ get_or code.now i 0) × (result < 256) }
-{
-    code[i] as u32
-}
-
+// The halfword at i, the lower byte first.
 fn half(code: &[u8], i: usize) -> u16
     requires { i + 2 ≤ length code.now }
     ensures { result ≡ steps.half_at code.now i }
 {
-    (byte(code, i) + 256 * byte(code, i + 1)) as u16
+    u16::from_le_bytes([code[i], code[i + 1]])
 }
 
 // The halfword h at i with the one after it, which is 0 where h does not ask for one; none if that is outside code.
@@ -144,7 +138,7 @@ fn stopped_after(stopped: Stopped, count: u64) -> Ran
 {
     let Stopped { core, stop } = stopped;
     Ran {
-        machine: core.whole(),
+        machine: Machine::from(core),
         status: stop.status(),
         number: stop.number(),
         count,
@@ -163,7 +157,7 @@ pub fn run(machine: Machine, code: &[u8], memory: &mut [u32], limit: u64) -> Ran
             count: 0,
         };
     }
-    let mut core = machine.core();
+    let mut core = Core::from(machine);
     for k in 0..limit {
         match once(core, code, memory) {
             Ok(next) => core = next,
@@ -176,7 +170,7 @@ pub fn run(machine: Machine, code: &[u8], memory: &mut [u32], limit: u64) -> Ran
         }
     }
     Ran {
-        machine: core.whole(),
+        machine: Machine::from(core),
         status: 0,
         number: 0,
         count: limit,

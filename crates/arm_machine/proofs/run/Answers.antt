@@ -44,7 +44,7 @@ returns-in-Svc c =
     ap (λ (r : Ran). run_after r w) c.stopped_after.ensures
     ∙ sym (lp.invariant.0 ∙ turn_ended x.limit lp.k x.code.now lp.memory (whole lp.core) a e c.loop-k-test.true (ap status_of c.in-Svc.is))
     ∙ unrefused x.limit _ _ _ (sym c.check_lengths.ensures ∙ ap answered c.in_default.is)
-    ∙ ap (run_of x.limit _ _) c.core-core.ensures
+    ∙ ap (run_of x.limit _ _) c.from-core.ensures
 
 pub returns-in-Err-once : goal.returns-in-Err-once
 returns-in-Err-once c =
@@ -58,7 +58,7 @@ returns-in-Err-once c =
     ap (λ (r : Ran). run_after r w) c.stopped_after-in-Err-once.ensures
     ∙ sym (lp.invariant.0 ∙ turn_fault x.limit lp.k x.code.now lp.memory (whole lp.core) a e c.loop-k-test.true (λ z. omega (arith, l, s)) (λ z. omega (arith, l, s)))
     ∙ unrefused x.limit _ _ _ (sym c.check_lengths.ensures ∙ ap answered c.in_default.is)
-    ∙ ap (run_of x.limit _ _) c.core-core.ensures
+    ∙ ap (run_of x.limit _ _) c.from-core.ensures
 
 pub loop-k-preserved : goal.loop-k-preserved
 loop-k-preserved c =
@@ -75,7 +75,7 @@ returns c =
     let x = c.args in
     let lp = c.loop-k in
     let k≡ : lp.k ≡ x.limit = omega arith in
-    ap (λ (m : Machine). run_after (ran (done m) x.limit) lp.memory) c.whole.ensures
+    ap (λ (m : Machine). run_after (ran (done m) x.limit) lp.memory) c.from.ensures
     ∙ sym (lp.invariant.0 ∙ all_done x.limit lp.k x.code.now lp.memory (whole lp.core) c.loop-k-test.false ∙ ap (λ (k : ℕ). run_after (ran (done (whole lp.core)) k) lp.memory) k≡)
     ∙ unrefused x.limit _ _ _ (sym c.check_lengths.ensures ∙ ap answered c.in_default.is)
-    ∙ ap (run_of x.limit _ _) c.core-core.ensures
+    ∙ ap (run_of x.limit _ _) c.from-core.ensures
