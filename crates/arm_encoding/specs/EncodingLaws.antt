@@ -1,6 +1,6 @@
 -- The laws of the code: what was encoded decodes to the instruction, what was decoded encodes to the halfwords, and no halfword has two instructions.
 -- Rests on Encoding, Fields and EncodingTable; the two lists `view` and `made` are the only places that go through the instructions one by one.
-use Rattle.std.specs.Prelude.{◌≡◌, refl, Bool, true, false, List, [], ◌∷◌, ℕ, zero, suc, ◌+◌, ◌-◌, ◌*◌, ◌/◌, ◌%◌, ◌≤◌, ◌<◌, Option, Some, None, length, get_or, ltb, leb, eqb}
+use Rattle.std.specs.Prelude.{◌≡◌, refl, Bool, true, false, List, [], ◌∷◌, ℕ, zero, suc, ◌+◌, ◌-◌, ◌*◌, ◌/◌, ◌%◌, ◌≤◌, ◌<◌, Some, None, length, get_or, ltb, leb, eqb}
 use Rattle.std.proofs.Common.{sym, ap, ap₂, ◌∙◌, mod-lt, le_of_suc-le-suc, not-suc-le-zero, arith, lit<, lit≤, lt-ltb, le-ltb, ltb-true, ltb-false, leb-true, eqb-true}
 use Rattle.std.proofs.Math.Arith.{lt-one}
 use Rattle.arm_word.specs.Choice.{pick}

@@ -2,7 +2,6 @@
 -- Rests on the definitions that its contract cites; assumes nothing.
 use Rattle.arm_encoding.specs.Encoding.{put_long}
 use borrow.Author.Tests.{lt-ltb, le-ltb}
-use mathlib.Core.Path.{◌∙◌}
 use Rattle.arm_encoding.proofs.long.Goals as goal
 
 pub returns-then-f-ge4194304 : goal.returns-then-f-ge4194304

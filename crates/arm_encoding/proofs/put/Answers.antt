@@ -2,7 +2,7 @@
 -- Rests on the definitions that its contract cites; assumes nothing.
 use Rattle.arm_encoding.specs.Encoding.{form, put}
 use borrow.Author.Tests.{lt-ltb, le-ltb}
-use mathlib.Core.Path.{sym, ◌∙◌}
+use mathlib.Core.Path.{sym}
 use Rattle.arm_encoding.specs.Fields.{put_one}
 use Rattle.arm_encoding.proofs.put.Goals as goal
 

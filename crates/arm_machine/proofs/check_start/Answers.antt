@@ -1,7 +1,7 @@
 -- `arm_machine::check_start` meets its contract: the answers are the definition's, test by test and call by call.
 -- Rests on the definitions that its contract cites; assumes nothing.
 use mathlib.Core.Path.{sym, ap, ◌∙◌}
-use borrow.Author.Tests.{lt-ltb, le-ltb, eq-eqb, ne_eqb}
+use borrow.Author.Tests.{lt-ltb, le-ltb, eq-eqb}
 use Rattle.arm_machine.specs.Start.{start_refusal}
 use Rattle.arm_machine.specs.Refusals.{answered}
 use Rattle.arm_machine.proofs.NumberLaws.{refusal_not_0, passed_on}

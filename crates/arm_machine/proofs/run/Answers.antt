@@ -5,7 +5,7 @@ use mathlib.Core.Bool.{false}
 use Prim.Native.Nat.{ℕ}
 use native.Mathlib.Omega.{arith}
 use lib.Dec.{eqb}
-use Rattle.std.specs.Prelude.{Result, Ok, Err}
+use Rattle.std.specs.Prelude.{Result}
 use Rattle.arm_state.specs.MachineCore.{whole, stopped, turned}
 use Rattle.arm_state.specs.Effects.{after, done, fault}
 use Rattle.arm_state.specs.Stops.{status_of}
