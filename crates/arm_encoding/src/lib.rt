@@ -50,21 +50,33 @@ pub enum Halfwords {
     Two(u16, u16),
 }
 
-// The halfword of a form with these fields; none if one is out of range.
-fn put(base: u32, high: u32, middle: u32, low: u32, a: u32, b: u32, c: u32) -> Option<Halfwords>
-    requires { base + high * middle * low ≤ 65536 }
-    ensures { encoded result ≡ spec.put (form base high middle low) a b c }
-{
-    if a >= high {
-        return None;
+// A form's first halfword, and what its three fields stay below, from the highest.
+#[derive(Clone, Copy)]
+struct Limits {
+    base: u32,
+    high: u32,
+    middle: u32,
+    low: u32,
+}
+
+impl Limits {
+    // The halfword of a form with these fields; none if one is out of range.
+    fn put(self, a: u32, b: u32, c: u32) -> Option<Halfwords>
+        requires { self.base + self.high * self.middle * self.low ≤ 65536 }
+        ensures { encoded result ≡ spec.put (form self.base self.high self.middle self.low) a b c }
+    {
+        if a >= self.high {
+            return None;
+        }
+        if b >= self.middle {
+            return None;
+        }
+        if c >= self.low {
+            return None;
+        }
+        let fields = (a * self.middle + b) * self.low + c;
+        Some(Halfwords::One((self.base + fields) as u16))
     }
-    if b >= middle {
-        return None;
-    }
-    if c >= low {
-        return None;
-    }
-    Some(Halfwords::One((base + ((a * middle + b) * low + c)) as u16))
 }
 
 // +64a +8b +c.
@@ -72,7 +84,13 @@ fn three(base: u32, high: u32, a: u8, b: u8, c: u8) -> Option<Halfwords>
     requires { base + high * 8 * 8 ≤ 65536 }
     ensures { encoded result ≡ spec.put (form base high 8 8) a b c }
 {
-    put(base, high, 8, 8, a as u32, b as u32, c as u32)
+    let limits = Limits {
+        base,
+        high,
+        middle: 8,
+        low: 8,
+    };
+    limits.put(a as u32, b as u32, c as u32)
 }
 
 // The same with a shift's count, 1 to 32.
@@ -88,7 +106,27 @@ fn pair(base: u32, low: u32, b: u8, c: u8) -> Option<Halfwords>
     requires { base + 1 * 8 * low ≤ 65536 }
     ensures { encoded result ≡ spec.put (form base 1 8 low) 0 b c }
 {
-    put(base, 1, 8, low, 0, b as u32, c as u32)
+    let limits = Limits {
+        base,
+        high: 1,
+        middle: 8,
+        low,
+    };
+    limits.put(0, b as u32, c as u32)
+}
+
+// A form of one field.
+fn alone(base: u32, low: u32, c: u32) -> Option<Halfwords>
+    requires { base + 1 * 1 * low ≤ 65536 }
+    ensures { encoded result ≡ spec.put (form base 1 1 low) 0 0 c }
+{
+    let limits = Limits {
+        base,
+        high: 1,
+        middle: 1,
+        low,
+    };
+    limits.put(0, 0, c)
 }
 
 // +c.
@@ -96,7 +134,7 @@ fn single(base: u32, low: u32, c: u8) -> Option<Halfwords>
     requires { base + 1 * 1 * low ≤ 65536 }
     ensures { encoded result ≡ spec.put (form base 1 1 low) 0 0 c }
 {
-    put(base, 1, 1, low, 0, 0, c as u32)
+    alone(base, low, c as u32)
 }
 
 // A distance.
@@ -104,7 +142,7 @@ fn branch(base: u32, half: u32, k: u32) -> Option<Halfwords>
     requires { (0 < half) × (base + 1 * 1 * (2 * half) ≤ 65536) }
     ensures { encoded result ≡ spec.put (form base 1 1 (2 * half)) 0 0 (spec.narrow half k) }
 {
-    put(base, 1, 1, 2 * half, 0, 0, narrow(half, k))
+    alone(base, 2 * half, narrow(half, k))
 }
 
 // A shift's count and its field: 32 is stored as 0, and 0 is out of range.
