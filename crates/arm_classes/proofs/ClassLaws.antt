@@ -1,7 +1,7 @@
 -- Every pair of halfwords is exactly one of three: an instruction of the list, undefined or unpredictable, or of a class. Laws; rests on Classes and on the decoder's table.
 use Rattle.std.proofs.Math.Path.{◌≡◌, refl, sym}
 use Rattle.std.proofs.Common.{ap, ◌∙◌, lit<, ltb-false}
-use Rattle.std.specs.Prelude.{true, false, ℕ, ◌+◌, ◌≤◌, ◌<◌, ltb}
+use Rattle.std.specs.Prelude.{true, false, ℕ, ◌+◌, ◌≤◌, ◌<◌, Option, Some, None, ltb}
 use Rattle.std.proofs.Math.Bool.{and-false}
 use native.Mathlib.Omega.{arith}
 use Rattle.arm_word.specs.ChoiceLaws.{by_test}
@@ -11,8 +11,6 @@ use Rattle.arm_encoding.specs.Encoding.{end, table, find, decode_of}
 use Rattle.arm_encoding.specs.EncodingTable.{ranges, at, row_hit, row_miss, listed, unknown_in_none, in_none_unknown}
 use Rattle.arm_encoding.specs.EncodingLaws.{known_cases}
 use Rattle.arm_encoding.specs.declared.Instr.{Instr}
-use Rattle.arm_encoding.specs.declared.Decoded.{Decoded}
-use Rattle.arm_encoding.specs.declared.Decoded.TheVariants.{Known, Unknown}
 use Rattle.arm_classes.specs.Classes.{lines, class_of, Part, none, rows, pair_defined, defines, defined, classify_of}
 use Rattle.arm_classes.specs.ClassRows.{in_row}
 use Rattle.arm_classes.specs.Told.{met, Told, ours, undefined, unsupported}
@@ -37,13 +35,13 @@ long_apart h k l =
     simp (below 0x8000 0x8FFF (lit< tt), below 0x8800 0x88FF (lit< tt), below 0x8F40 0x8F6F (lit< tt), below 0xD000 0xDFFF (lit< tt), below 0xF000 0xF7FF (lit< tt), and-false)
 
 -- no instruction of the list is told to be outside it: it stands in no row, or it is BL, whose first half stands in row 41
-pub listed_apart : (h k : ℕ) (i : Instr) → h < 65536 → decode_of h k ≡ Known i → defined h k ≡ false
+pub listed_apart : (h k : ℕ) (i : Instr) → h < 65536 → decode_of h k ≡ Some i → defined h k ≡ false
 listed_apart h k i b d =
     known_cases h k i (defined h k ≡ false) d
     (λ _ e. ap (λ (x : Part). defines x h k) (held_by_none none rows h (outside e)))
     (λ w l g _. let n = ltb-false h 0xF000 w in unfold rows in in_row 41 h k (lit< tt) n (omega arith) ∙ long_apart h k g)
   where
-    outside : find table h ≡ Known i → holding rows h ≡ 0
+    outside : find table h ≡ Some i → holding rows h ≡ 0
     outside e = omega (arith, one_row h b, some)
       where
         some : holding (ranges table) h ≡ 0 → ⊥
@@ -52,15 +50,15 @@ listed_apart h k i b d =
 -- ── what is outside the list ──
 
 -- behind the table
-no_form_behind : (h : ℕ) → 0xF000 ≤ h → h < 65536 → find table h ≡ Unknown
+no_form_behind : (h : ℕ) → 0xF000 ≤ h → h < 65536 → find table h ≡ None
 unfolding table ranges plain
 no_form_behind h l b = row_miss 0xF000 0xFFFF h refl l (omega arith)
 
-module _ (h k : ℕ) (b : h < 65536) (u : decode_of h k ≡ Unknown) where
-  no_form : find table h ≡ Unknown
+module _ (h k : ℕ) (b : h < 65536) (u : decode_of h k ≡ None) where
+  no_form : find table h ≡ None
   unfolding decode_of
   no_form =
-      by_test (λ _. find table h ≡ Unknown) (ltb h 0xF000)
+      by_test (λ _. find table h ≡ None) (ltb h 0xF000)
       (λ e. sym (rw e) ∙ u)
       (λ e. no_form_behind h (ltb-false h 0xF000 e) b)
 
@@ -102,13 +100,13 @@ pub told_apart : (h k : ℕ) → h < 65536 → Told h k
 unfolding classify_of
 told_apart h k b = by_decoding (decode_of h k) refl
   where
-    outside : decode_of h k ≡ Unknown → Told h k
+    outside : decode_of h k ≡ None → Told h k
     outside u =
         let c = class_range h in
         by_test (λ _. Told h k) (defined h k)
         (λ e. unsupported (class_of h) u (rw e) c.0 c.1 (class_met h k b u))
         (λ e. undefined u (rw e))
 
-    by_decoding : (d : Decoded) → decode_of h k ≡ d → Told h k
-    by_decoding (Known i) e = ours i e (listed_apart h k i b e)
-    by_decoding Unknown e = outside e
+    by_decoding : (d : Option Instr) → decode_of h k ≡ d → Told h k
+    by_decoding (Some i) e = ours i e (listed_apart h k i b e)
+    by_decoding None e = outside e

@@ -1,14 +1,12 @@
 -- Halfwords of every class that can be met, and of every way to be undefined or unpredictable, worked out. Rests on Classes.
-use Rattle.std.specs.Prelude.{◌≡◌, refl, List, [], ◌∷◌, ℕ}
+use Rattle.std.specs.Prelude.{◌≡◌, refl, List, [], ◌∷◌, ℕ, Option, Some, None}
 use Rattle.arm_word.specs.Ranges.{look}
-use Rattle.arm_classes.specs.declared.Unlisted.{Unlisted}
-use Rattle.arm_classes.specs.declared.Unlisted.TheVariants.{Undefined, Unsupported}
 use Rattle.arm_classes.specs.Classes.{lines, rows, pair_defined, classify_of}
 
 -- the class, or 0
-abbrev number : Unlisted → ℕ
-number Undefined = 0
-number (Unsupported class) = class
+abbrev number : Option ℕ → ℕ
+number None = 0
+number (Some class) = class
 
 unfoldable pub firsts : List ℕ → List ℕ
 firsts [] = []

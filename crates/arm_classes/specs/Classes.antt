@@ -1,10 +1,8 @@
 -- Halfwords that are no instruction of document 01's list: what Armv6-M leaves undefined or unpredictable, and the class of what it defines. Definitions.
 -- Request 2026-05. docs/CLASSES.md has every instruction by itself; here neighbours of one answer are one row, and the list's own halfwords, which arm_encoding's table has, are left out.
-use Rattle.std.specs.Prelude.{ℕ, ◌/◌, ◌%◌, Bool, true, false, not, ◌&&◌, ◌||◌, List, [], ◌∷◌, eqb}
+use Rattle.std.specs.Prelude.{ℕ, ◌/◌, ◌%◌, Bool, true, false, not, ◌&&◌, ◌||◌, List, [], ◌∷◌, Option, Some, None, eqb}
 use Rattle.arm_word.specs.Choice.{pick}
 use Rattle.arm_word.specs.Ranges.{from_to, Range, range, look}
-use Rattle.arm_classes.specs.declared.Unlisted.{Unlisted}
-use Rattle.arm_classes.specs.declared.Unlisted.TheVariants.{Undefined, Unsupported}
 
 -- ── "the class as a number: the lines of the manual's 16-bit encoding table from 1, the next for all 32-bit ones" ──
 
@@ -174,6 +172,6 @@ defines paired h k = pair_defined h k
 abbrev pub defined : ℕ → ℕ → Bool
 defined h k = defines (look none rows h) h k
 
--- what halfwords are that decode to no instruction of the list
-unfoldable pub classify_of : ℕ → ℕ → Unlisted
-classify_of h k = pick (defined h k) (Unsupported (class_of h)) Undefined
+-- the class of halfwords that decode to no instruction of the list and that Armv6-M defines; none where it leaves them undefined or unpredictable
+unfoldable pub classify_of : ℕ → ℕ → Option ℕ
+classify_of h k = pick (defined h k) (Some (class_of h)) None

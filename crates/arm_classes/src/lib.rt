@@ -2,16 +2,7 @@
 #![tactic(auto)]
 
 ghost use Rattle.std.specs.Prelude.{◌≡◌};
-ghost use Rattle.arm_word.specs.Ranges.{from_to};
 ghost use Rattle.arm_classes.specs.Classes as spec;
-
-#[derive(Drop)]
-pub enum Unlisted {
-    // Armv6-M leaves it undefined or unpredictable.
-    Undefined,
-    // Armv6-M defines it; its class, 1 to 13.
-    Unsupported(u32),
-}
 
 // The line of the manual's table of 16-bit instructions, or the next number.
 fn class_of(h: u16) -> u32
@@ -34,12 +25,6 @@ fn class_of(h: u16) -> u32
     }
 }
 
-fn between(first: u16, last: u16, x: u16) -> bool
-    ensures { result ≡ from_to first last x }
-{
-    (first <= x) & (x <= last)
-}
-
 // A register that MRS and MSR move: not sp, not pc.
 fn general(r: u16) -> bool
     ensures { result ≡ spec.general r }
@@ -51,33 +36,36 @@ fn general(r: u16) -> bool
 fn special(m: u16) -> bool
     ensures { result ≡ spec.special m }
 {
-    between(0, 3, m) | between(5, 9, m) | (m == 16) | (m == 20)
+    (0..=3).contains(&m) | (5..=9).contains(&m) | (m == 16) | (m == 20)
 }
 
 fn mrs(h: u16, k: u16) -> bool
     ensures { result ≡ spec.MRS h k }
 {
-    (h == 0xF3EF) & between(0x8000, 0x8FFF, k) & general(k / 256 % 16) & special(k % 256)
+    (h == 0xF3EF) & (0x8000..=0x8FFF).contains(&k) & general(k / 256 % 16) & special(k % 256)
 }
 
 fn msr(h: u16, k: u16) -> bool
     ensures { result ≡ spec.MSR h k }
 {
-    between(0xF380, 0xF38F, h) & between(0x8800, 0x88FF, k) & general(h % 16) & special(k % 256)
+    (0xF380..=0xF38F).contains(&h)
+        & (0x8800..=0x88FF).contains(&k)
+        & general(h % 16)
+        & special(k % 256)
 }
 
 // DSB, DMB, ISB.
 fn barrier(h: u16, k: u16) -> bool
     ensures { result ≡ spec.barrier h k }
 {
-    (h == 0xF3BF) & between(0x8F40, 0x8F6F, k)
+    (h == 0xF3BF) & (0x8F40..=0x8F6F).contains(&k)
 }
 
 // BL with other J bits than the list's.
 fn far_call(k: u16) -> bool
     ensures { result ≡ spec.far_call k }
 {
-    between(0xD000, 0xDFFF, k) | between(0xF000, 0xF7FF, k)
+    (0xD000..=0xDFFF).contains(&k) | (0xF000..=0xF7FF).contains(&k)
 }
 
 // Both halves of a 32-bit instruction.
@@ -118,12 +106,13 @@ fn defined(h: u16, k: u16) -> bool
     }
 }
 
-// What halfwords are that decode to no instruction of the list.
-pub fn classify(h: u16, k: u16) -> Unlisted
+// The class, 1 to 13, of halfwords that decode to no instruction of the list and that Armv6-M defines; none where it leaves them undefined
+// or unpredictable.
+pub fn classify(h: u16, k: u16) -> Option<u32>
     ensures { result ≡ spec.classify_of h k }
 {
     if defined(h, k) {
-        return Unlisted::Unsupported(class_of(h));
+        return Some(class_of(h));
     }
-    Unlisted::Undefined
+    None
 }

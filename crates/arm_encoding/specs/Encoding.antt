@@ -1,14 +1,13 @@
 -- The halfwords of the instructions: document 01's hex table, written once as forms, and encoding and decoding by it. Definitions.
 -- In every form the fields are, from the highest: a below `high`, b below `middle`, c below `low`; a form's halfwords are base + (a * middle + b) * low + c.
-use Rattle.std.specs.Prelude.{ℕ, ◌+◌, ◌-◌, ◌*◌, ◌/◌, ◌%◌, List, [], ◌∷◌, Bool, false, ltb, leb, eqb}
+use Rattle.std.specs.Prelude.{ℕ, ◌+◌, ◌-◌, ◌*◌, ◌/◌, ◌%◌, List, [], ◌∷◌, Bool, false, Option, Some, None, ltb, leb, eqb}
 use Rattle.arm_word.specs.Choice.{pick}
 use Rattle.arm_encoding.specs.declared.Instr.{Instr}
 use Rattle.arm_encoding.specs.declared.Instr.TheVariants.{Shli, Shri, Ashri, Addr, Subr, Movi, Addi, Subi, Ldrpci, Strspi, Ldrspi, Addpci, Addspi, Andr, Xorr, Shl, Shr, Negr, Orr}
 use Rattle.arm_encoding.specs.declared.Instr.TheVariants.{Mul, Mvnr, Str}
 use Rattle.arm_encoding.specs.declared.Instr.TheVariants.{Ldr, Stri, Ldri, Incsp, Decsp, Svc, Beq, Bne, Bge, Blt, Bu, Bl}
-use Rattle.arm_encoding.specs.declared.Encoded.{Encoded}
-use Rattle.arm_encoding.specs.declared.Decoded.{Decoded}
-use Rattle.arm_encoding.specs.declared.Decoded.TheVariants.{Known, Unknown}
+use Rattle.arm_encoding.specs.declared.Halfwords.{Halfwords}
+use Rattle.arm_encoding.specs.declared.Halfwords.TheVariants.{One, Two}
 
 pub record Form : Type 0 where
   pub base : ℕ
@@ -143,6 +142,13 @@ widen half f = pick (ltb f half) f (f + (4294967296 - 2 * half))
 
 -- ── encoding ──
 
+-- an encoding in numbers: its status, how many halfwords there are, and these
+pub record Encoded : Type 0 where
+  pub status : ℕ
+  pub count : ℕ
+  pub first : ℕ
+  pub second : ℕ
+
 -- Faults: "Encoding a field out of range: 35, count 0 and both halfwords 0"
 abbrev pub refused : Encoded
 refused = record { status = 35; count = 0; first = 0; second = 0 }
@@ -152,6 +158,12 @@ one h = record { status = 0; count = 1; first = h; second = 0 }
 
 abbrev pub two : ℕ → ℕ → Encoded
 two h k = record { status = 0; count = 2; first = h; second = k }
+
+-- the code's halfwords as that: none where the encoding is refused
+abbrev pub encoded : Option Halfwords → Encoded
+encoded None = refused
+encoded (Some (One h)) = one h
+encoded (Some (Two h k)) = two h k
 
 -- the encoding that halfwords are: one, and two from F000 on
 abbrev pub whole : ℕ → ℕ → Encoded
@@ -265,14 +277,14 @@ abbrev pub cut : Row → ℕ → Instr
 cut r h = r.make (h / (r.shape.middle * r.shape.low) % r.shape.high) (h / r.shape.low % r.shape.middle) (h % r.shape.low)
 
 -- the first row that has the halfword
-unfoldable pub find : List Row → ℕ → Decoded
-find [] h = Unknown
-find (r ∷ rows) h = pick (within r.shape h) (Known (cut r h)) (find rows h)
+unfoldable pub find : List Row → ℕ → Option Instr
+find [] h = None
+find (r ∷ rows) h = pick (within r.shape h) (Some (cut r h)) (find rows h)
 
 -- a first halfword, and the one after it, which matters only for F000 to F7FF: with F800 to FFFF after it that is BL
-unfoldable pub decode_of : ℕ → ℕ → Decoded
+unfoldable pub decode_of : ℕ → ℕ → Option Instr
 decode_of h k =
     pick (ltb h 0xF000) (find table h)
     (pick (ltb h 0xF800)
-    (pick (ltb k 0xF800) Unknown (Known (Bl (widen 2097152 ((h - 0xF000) * 2048 + (k - 0xF800))))))
-    Unknown)
+    (pick (ltb k 0xF800) None (Some (Bl (widen 2097152 ((h - 0xF000) * 2048 + (k - 0xF800))))))
+    None)

@@ -4,8 +4,7 @@ use Rattle.std.proofs.Common.{ap, arith, lit<}
 use Rattle.arm_word.specs.Choice.{pick}
 use Rattle.arm_word.specs.ChoiceLaws.{by_test}
 use Rattle.arm_encoding.specs.declared.Instr.{Instr}
-use Rattle.arm_encoding.specs.declared.Encoded.{Encoded}
-use Rattle.arm_encoding.specs.Encoding.{one, two, whole, encode_of}
+use Rattle.arm_encoding.specs.Encoding.{Encoded, one, two, whole, encode_of}
 use Rattle.arm_encoding.specs.EncodingBytes.{encoded_bytes}
 use Rattle.arm_encoding.specs.Fields.{packed_lt, put_cases}
 use Rattle.arm_encoding.specs.EncodingTable.{at}

@@ -1,7 +1,7 @@
 -- The bytes of an encoding, as code holds them. Definitions.
 use Rattle.std.specs.Prelude.{List, [], ◌∷◌, ◌++◌, ℕ, ◌/◌, ◌%◌, eqb}
 use Rattle.arm_word.specs.Choice.{pick}
-use Rattle.arm_encoding.specs.declared.Encoded.{Encoded}
+use Rattle.arm_encoding.specs.Encoding.{Encoded}
 
 -- The machine: "Halfwords and words are little-endian"
 abbrev pub halfword_bytes : ℕ → List ℕ

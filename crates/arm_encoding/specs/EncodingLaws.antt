@@ -1,6 +1,6 @@
 -- The laws of the code: what was encoded decodes to the instruction, what was decoded encodes to the halfwords, and no halfword has two instructions.
 -- Rests on Encoding, Fields and EncodingTable; the two lists `view` and `made` are the only places that go through the instructions one by one.
-use Rattle.std.specs.Prelude.{◌≡◌, refl, Bool, true, false, List, [], ◌∷◌, ℕ, zero, suc, ◌+◌, ◌-◌, ◌*◌, ◌/◌, ◌%◌, ◌≤◌, ◌<◌, length, get_or, ltb, leb, eqb}
+use Rattle.std.specs.Prelude.{◌≡◌, refl, Bool, true, false, List, [], ◌∷◌, ℕ, zero, suc, ◌+◌, ◌-◌, ◌*◌, ◌/◌, ◌%◌, ◌≤◌, ◌<◌, Some, None, length, get_or, ltb, leb, eqb}
 use Rattle.std.proofs.Common.{sym, ap, ap₂, ◌∙◌, mod-lt, le_of_suc-le-suc, not-suc-le-zero, arith, lit<, lit≤, lt-ltb, le-ltb, ltb-true, ltb-false, leb-true, eqb-true}
 use Rattle.std.proofs.Math.Arith.{lt-one}
 use Rattle.arm_word.specs.Choice.{pick}
@@ -8,9 +8,7 @@ use Rattle.arm_word.specs.ChoiceLaws.{by_test, both}
 use Rattle.arm_encoding.specs.declared.Instr.{Instr}
 use Rattle.arm_encoding.specs.declared.Instr.TheVariants.{Shli, Shri, Ashri, Addr, Subr, Movi, Addi, Subi, Andr, Xorr, Shl, Shr, Negr, Orr, Mul, Mvnr, Ldrpci, Str, Ldr, Stri, Ldri, Strspi}
 use Rattle.arm_encoding.specs.declared.Instr.TheVariants.{Ldrspi, Addpci, Addspi, Incsp, Decsp, Beq, Bne, Bge, Blt, Svc, Bu, Bl}
-use Rattle.arm_encoding.specs.declared.Encoded.{Encoded}
-use Rattle.arm_encoding.specs.declared.Decoded.TheVariants.{Known, Unknown}
-use Rattle.arm_encoding.specs.Encoding.{whole, SHLI, SHRI, ASHRI, ADDR, SUBR, MOVI, ADDI, SUBI, ANDR, XORR, SHL, SHR, NEGR, ORR, MUL, MVNR, LDRPCI, STR, LDR, STRI, LDRI, STRSPI, LDRSPI, ADDPCI}
+use Rattle.arm_encoding.specs.Encoding.{Encoded, whole, SHLI, SHRI, ASHRI, ADDR, SUBR, MOVI, ADDI, SUBI, ANDR, XORR, SHL, SHR, NEGR, ORR, MUL, MVNR, LDRPCI, STR, LDR, STRI, LDRI, STRSPI, LDRSPI, ADDPCI}
 use Rattle.arm_encoding.specs.Encoding.{ADDSPI, INCSP, DECSP, BEQ, BNE, BGE, BLT, SVC, BU, Form, form, put, put_long, one, two, refused, swap32, narrow, widen, Row, row, end, cut}
 use Rattle.arm_encoding.specs.Encoding.{within, find, table}
 use Rattle.arm_encoding.specs.Encoding.{encode_of, decode_of}
@@ -119,15 +117,15 @@ unfolding decode_of
 decode_short h k l = rw (lt-ltb h 0xF000 l)
 
 -- two halfwords of BL
-decode_long : (f : ℕ) → f < 4194304 → decode_of (0xF000 + f / 2048) (0xF800 + f % 2048) ≡ Known (Bl (widen 2097152 f))
+decode_long : (f : ℕ) → f < 4194304 → decode_of (0xF000 + f / 2048) (0xF800 + f % 2048) ≡ Some (Bl (widen 2097152 f))
 unfolding decode_of
 decode_long f h =
     rw (le-ltb (0xF000 + f / 2048) 0xF000 (omega arith), lt-ltb (0xF000 + f / 2048) 0xF800 (omega arith), le-ltb (0xF800 + f % 2048) 0xF800 (omega arith))
-    (ap (λ (x : ℕ). Known (Bl (widen 2097152 x))) (omega arith))
+    (ap (λ (x : ℕ). Some (Bl (widen 2097152 x))) (omega arith))
 
 -- what a row's form put together is found, and taken apart again
 back : (k a b c : ℕ) → k < 33 → a < (at k).shape.high → b < (at k).shape.middle → c < (at k).shape.low
-    → decode_of ((at k).shape.base + ((a * (at k).shape.middle + b) * (at k).shape.low + c)) 0 ≡ Known ((at k).make a b c)
+    → decode_of ((at k).shape.base + ((a * (at k).shape.middle + b) * (at k).shape.low + c)) 0 ≡ Some ((at k).make a b c)
 back k a b c hk ha hb hc =
     let f = (at k).shape in
     let s = sound_at k hk in
@@ -137,22 +135,22 @@ back k a b c hk ha hb hc =
     let below = s.below in
     decode_short (f.base + x) 0 (omega arith)
     ∙ row_hit k (f.base + x) hk (omega arith) (omega arith)
-    ∙ ap (λ (z : ℕ). Known (cut (at k) (z + x))) s.multiple
-    ∙ ap Known (uncut (at k) q a b c ha hb hc)
+    ∙ ap (λ (z : ℕ). Some (cut (at k) (z + x))) s.multiple
+    ∙ ap Some (uncut (at k) q a b c ha hb hc)
 
-pub decode_encode : (i : Instr) → (encode_of i).status ≡ 0 → decode_of (encode_of i).first (encode_of i).second ≡ Known i
+pub decode_encode : (i : Instr) → (encode_of i).status ≡ 0 → decode_of (encode_of i).first (encode_of i).second ≡ Some i
 decode_encode i = go (view i)
   where
-    go : View i → (encode_of i).status ≡ 0 → decode_of (encode_of i).first (encode_of i).second ≡ Known i
+    go : View i → (encode_of i).status ≡ 0 → decode_of (encode_of i).first (encode_of i).second ≡ Some i
     go (short k a b c hk e m) =
         rw e
-        (put_cases (at k).shape a b c (λ r. r.status ≡ 0 → decode_of r.first r.second ≡ Known i)
-        (λ ha hb hc _. back k a b c hk ha hb hc ∙ ap Known (m hc))
+        (put_cases (at k).shape a b c (λ r. r.status ≡ 0 → decode_of r.first r.second ≡ Some i)
+        (λ ha hb hc _. back k a b c hk ha hb hc ∙ ap Some (m hc))
         (λ z. absurd (omega arith)))
     go (long f e m) =
         rw e
-        (long_cases (λ r. r.status ≡ 0 → decode_of r.first r.second ≡ Known i) f
-        (λ h _. decode_long f h ∙ ap Known (m h))
+        (long_cases (λ r. r.status ≡ 0 → decode_of r.first r.second ≡ Some i) f
+        (λ h _. decode_long f h ∙ ap Some (m h))
         (λ z. absurd (omega arith)))
 
 -- ── encode after decode ──
@@ -237,41 +235,41 @@ recut r h s m w =
     ∙ ap one (ap (λ (z : ℕ). z + ((h / (f.middle * f.low) % f.high * f.middle + h / f.low % f.middle) * f.low + h % f.low)) s.multiple
     ∙ repack q f.high f.middle f.low h s.some_high s.some_middle s.some_low (rw (← s.multiple) l) (rw (← s.multiple) u))
 
-found : (t : List Row) → all_sound t ≡ true → AllMade t → (h : ℕ) (i : Instr) → find t h ≡ Known i → encode_of i ≡ one h
+found : (t : List Row) → all_sound t ≡ true → AllMade t → (h : ℕ) (i : Instr) → find t h ≡ Some i → encode_of i ≡ one h
 unfolding find all_sound
 found [] o g h i = λ e. absurd (let z : ◌≡◌ {A = ℕ} 0 1 = cc in omega arith)
 found (r ∷ rows) o (m and g) h i =
     let s = both (sound r.shape) (all_sound rows) o in
-    by_test (λ t. pick t (Known (cut r h)) (find rows h) ≡ Known i → encode_of i ≡ one h) (within r.shape h)
+    by_test (λ t. pick t (Some (cut r h)) (find rows h) ≡ Some i → encode_of i ≡ one h) (within r.shape h)
     (λ w e. let i≡ : cut r h ≡ i = cc in ap encode_of (sym i≡) ∙ recut r h (sound_is r.shape s.0) m w)
     (λ w e. found rows s.1 g h i e)
 
-found_in_table : (h : ℕ) (i : Instr) → find table h ≡ Known i → encode_of i ≡ one h
+found_in_table : (h : ℕ) (i : Instr) → find table h ≡ Some i → encode_of i ≡ one h
 unfolding table all_sound
 found_in_table h i = found table refl made h i
 
 -- the cases of a decoding that gave an instruction
-pub known_cases : (h s : ℕ) (i : Instr) (P : Type 0) → decode_of h s ≡ Known i
-    → (ltb h 0xF000 ≡ true → find table h ≡ Known i → P)
+pub known_cases : (h s : ℕ) (i : Instr) (P : Type 0) → decode_of h s ≡ Some i
+    → (ltb h 0xF000 ≡ true → find table h ≡ Some i → P)
     → (ltb h 0xF000 ≡ false → h < 0xF800 → 0xF800 ≤ s → Bl (widen 2097152 ((h - 0xF000) * 2048 + (s - 0xF800))) ≡ i → P)
     → P
 unfolding decode_of
 known_cases h s i P d inside bl =
-    let x = Known (Bl (widen 2097152 ((h - 0xF000) * 2048 + (s - 0xF800)))) in
-    by_test (λ t. pick t (find table h) (pick (ltb h 0xF800) (pick (ltb s 0xF800) Unknown x) Unknown) ≡ Known i → P) (ltb h 0xF000)
+    let x = Some (Bl (widen 2097152 ((h - 0xF000) * 2048 + (s - 0xF800)))) in
+    by_test (λ t. pick t (find table h) (pick (ltb h 0xF800) (pick (ltb s 0xF800) None x) None) ≡ Some i → P) (ltb h 0xF000)
     (λ w e. inside w e)
-    (λ w. by_test (λ t. pick t (pick (ltb s 0xF800) Unknown x) Unknown ≡ Known i → P) (ltb h 0xF800)
-    (λ v. by_test (λ t. pick t Unknown x ≡ Known i → P) (ltb s 0xF800)
+    (λ w. by_test (λ t. pick t (pick (ltb s 0xF800) None x) None ≡ Some i → P) (ltb h 0xF800)
+    (λ v. by_test (λ t. pick t None x ≡ Some i → P) (ltb s 0xF800)
     (λ u e. absurd (let z : ◌≡◌ {A = ℕ} 0 1 = cc in omega arith))
     (λ u e. bl w (ltb-true h 0xF800 v) (ltb-false s 0xF800 u) (cc)))
     (λ v e. absurd (let z : ◌≡◌ {A = ℕ} 0 1 = cc in omega arith)))
     d
 
 -- nothing from F800 on decodes
-pub known_below : (h s : ℕ) (i : Instr) → decode_of h s ≡ Known i → h < 0xF800
+pub known_below : (h s : ℕ) (i : Instr) → decode_of h s ≡ Some i → h < 0xF800
 known_below h s i d = known_cases h s i (h < 0xF800) d (λ w _. omega (arith, ltb-true h 0xF000 w)) (λ _ l _ _. l)
 
-pub encode_decode : (h s : ℕ) (i : Instr) → s < 65536 → decode_of h s ≡ Known i → encode_of i ≡ whole h s
+pub encode_decode : (h s : ℕ) (i : Instr) → s < 65536 → decode_of h s ≡ Some i → encode_of i ≡ whole h s
 unfolding encode_of put_long
 encode_decode h s i hs d =
     known_cases h s i (encode_of i ≡ whole h s) d
@@ -284,7 +282,7 @@ encode_decode h s i hs d =
 
 -- ── no two instructions of one halfword, no two encodings of one instruction ──
 
-pub decode_once : (h s : ℕ) (i j : Instr) → decode_of h s ≡ Known i → decode_of h s ≡ Known j → i ≡ j
+pub decode_once : (h s : ℕ) (i j : Instr) → decode_of h s ≡ Some i → decode_of h s ≡ Some j → i ≡ j
 decode_once h s i j p q = cc
 
 pub encode_injective : (i j : Instr) → (encode_of i).status ≡ 0 → encode_of i ≡ encode_of j → i ≡ j

@@ -1,5 +1,5 @@
 -- Laws of the table: its forms stand in order and apart, so a halfword of a form finds its row, and one between two forms finds none. Rests on Encoding and on the laws of ranges.
-use Rattle.std.specs.Prelude.{◌≡◌, refl, Bool, true, false, ◌&&◌, List, [], ◌∷◌, ℕ, zero, suc, ◌+◌, ◌-◌, ◌*◌, ◌/◌, ◌%◌, ◌≤◌, ◌<◌, length, get_or, ltb, leb, eqb}
+use Rattle.std.specs.Prelude.{◌≡◌, refl, Bool, true, false, ◌&&◌, List, [], ◌∷◌, ℕ, zero, suc, ◌+◌, ◌-◌, ◌*◌, ◌/◌, ◌%◌, ◌≤◌, ◌<◌, Option, Some, None, length, get_or, ltb, leb, eqb}
 use Rattle.std.proofs.Common.{sym, ap, ◌∙◌, ⊎_elim, div-add-mod', mod-lt, arith, lt-ltb, le-ltb, le-leb, ltb-true, ltb-false, eqb-true}
 use Rattle.std.proofs.Math.Nat.{div-div-eq-div-mul}
 use Rattle.std.proofs.lemmas.Bool.{lt-leb, eqb-false}
@@ -7,18 +7,17 @@ use Rattle.arm_word.specs.Choice.{pick}
 use Rattle.arm_word.specs.ChoiceLaws.{by_test, pick_and, both, either}
 use Rattle.arm_word.specs.Ranges.{from_to, Range, range, look}
 use Rattle.arm_word.specs.RangeLaws.{after, ordered, hit, plain, miss, holding, held_by_none}
-use Rattle.arm_encoding.specs.declared.Decoded.{Decoded}
-use Rattle.arm_encoding.specs.declared.Decoded.TheVariants.{Known, Unknown}
+use Rattle.arm_encoding.specs.declared.Instr.{Instr}
 use Rattle.arm_encoding.specs.declared.Instr.TheVariants.{Shli}
 use Rattle.arm_encoding.specs.Encoding.{Form, Row, row, form, end, cut, within, find, table}
 
 -- ── the table as ranges ──
 
 -- a row's halfwords, and the instruction of each
-abbrev range_of : Row → Range (ℕ → Decoded)
-range_of r = range r.shape.base (end r.shape - 1) (λ h. Known (cut r h))
+abbrev range_of : Row → Range (ℕ → Option Instr)
+range_of r = range r.shape.base (end r.shape - 1) (λ h. Some (cut r h))
 
-unfoldable pub ranges : List Row → List (Range (ℕ → Decoded))
+unfoldable pub ranges : List Row → List (Range (ℕ → Option Instr))
 ranges [] = []
 ranges (r ∷ rows) = range_of r ∷ ranges rows
 
@@ -35,35 +34,35 @@ same_within f h p =
     (λ e. let l = ltb-true h (end f) e in rw (lt-ltb h (end f) l, le-leb h (end f - 1) (omega arith)))
     (λ e. let l = ltb-false h (end f) e in rw (le-ltb h (end f) l, lt-leb h (end f - 1) (omega arith))))
 
-find_look : (t : List Row) (h : ℕ) → some t ≡ true → find t h ≡ look (λ _. Unknown) (ranges t) h h
+find_look : (t : List Row) (h : ℕ) → some t ≡ true → find t h ≡ look (λ _. None) (ranges t) h h
 unfolding find look ranges some
 find_look [] h o = refl
 find_look (r ∷ rows) h o =
     let w = both (ltb 0 (end r.shape)) (some rows) o in
     rw (same_within r.shape h (ltb-true 0 (end r.shape) w.0))
-    (by_test (λ b. pick b (Known (cut r h)) (find rows h) ≡ pick b (λ x. Known (cut r x)) (look (λ _. Unknown) (ranges rows) h) h) (from_to r.shape.base (end r.shape - 1) h)
+    (by_test (λ b. pick b (Some (cut r h)) (find rows h) ≡ pick b (λ x. Some (cut r x)) (look (λ _. None) (ranges rows) h) h) (from_to r.shape.base (end r.shape - 1) h)
     (λ _. refl)
     (λ _. find_look rows h w.1))
 
-find_ranges : (h : ℕ) → find table h ≡ look (λ _. Unknown) (ranges table) h h
+find_ranges : (h : ℕ) → find table h ≡ look (λ _. None) (ranges table) h h
 unfolding table some
 find_ranges h = find_look table h refl
 
 -- what is no instruction is in no row, and what is in none is no instruction
-unknown_held : (t : List Row) (h : ℕ) → look (λ _. Unknown) (ranges t) h h ≡ Unknown → holding (ranges t) h ≡ 0
+unknown_held : (t : List Row) (h : ℕ) → look (λ _. None) (ranges t) h h ≡ None → holding (ranges t) h ≡ 0
 unfolding look ranges holding
 unknown_held [] h = λ _. refl
 unknown_held (r ∷ rows) h =
-    by_test (λ b. pick b (λ x. Known (cut r x)) (look (λ _. Unknown) (ranges rows) h) h ≡ Unknown → pick b 1 0 + holding (ranges rows) h ≡ 0)
+    by_test (λ b. pick b (λ x. Some (cut r x)) (look (λ _. None) (ranges rows) h) h ≡ None → pick b 1 0 + holding (ranges rows) h ≡ 0)
     (from_to r.shape.base (end r.shape - 1) h)
     (λ _ e. absurd (let z : ◌≡◌ {A = ℕ} 0 1 = cc in omega arith))
     (λ _ e. omega (arith, unknown_held rows h e))
 
-pub unknown_in_none : (h : ℕ) → find table h ≡ Unknown → holding (ranges table) h ≡ 0
+pub unknown_in_none : (h : ℕ) → find table h ≡ None → holding (ranges table) h ≡ 0
 unknown_in_none h e = unknown_held table h (sym (find_ranges h) ∙ e)
 
-pub in_none_unknown : (h : ℕ) → holding (ranges table) h ≡ 0 → find table h ≡ Unknown
-in_none_unknown h e = find_ranges h ∙ ap (λ (f : ℕ → Decoded). f h) (held_by_none (λ _. Unknown) (ranges table) h e)
+pub in_none_unknown : (h : ℕ) → holding (ranges table) h ≡ 0 → find table h ≡ None
+in_none_unknown h e = find_ranges h ∙ ap (λ (f : ℕ → Option Instr). f h) (held_by_none (λ _. None) (ranges table) h e)
 
 ranges_at : (t : List Row) (d : Row) (k : ℕ) → get_or (ranges t) k (range_of d) ≡ range_of (get_or t k d)
 unfolding ranges
@@ -87,20 +86,20 @@ row_count : length (ranges table) ≡ 33
 unfolding table ranges
 row_count = refl
 
-pub row_hit : (k h : ℕ) → k < 33 → (at k).shape.base ≤ h → h < end (at k).shape → find table h ≡ Known (cut (at k) h)
+pub row_hit : (k h : ℕ) → k < 33 → (at k).shape.base ≤ h → h < end (at k).shape → find table h ≡ Some (cut (at k) h)
 row_hit k h p l u =
     let e = ranges_at table none k in
     find_ranges h
-    ∙ ap (λ (f : ℕ → Decoded). f h) (hit (λ _. Unknown) (ranges table) (range_of none) k h in_order (rw row_count p) (rw e l) (rw e (omega arith)))
-    ∙ ap (λ (r : Range (ℕ → Decoded)). r.value h) e
+    ∙ ap (λ (f : ℕ → Option Instr). f h) (hit (λ _. None) (ranges table) (range_of none) k h in_order (rw row_count p) (rw e l) (rw e (omega arith)))
+    ∙ ap (λ (r : Range (ℕ → Option Instr)). r.value h) e
 
 -- no row has a halfword from lo to hi
 abbrev pub clear : ℕ → ℕ → Bool
 clear lo hi = plain (λ _. false) lo hi (ranges table)
 
-pub row_miss : (lo hi h : ℕ) → clear lo hi ≡ true → lo ≤ h → h ≤ hi → find table h ≡ Unknown
+pub row_miss : (lo hi h : ℕ) → clear lo hi ≡ true → lo ≤ h → h ≤ hi → find table h ≡ None
 row_miss lo hi h o l u =
-    find_ranges h ∙ ap (λ (f : ℕ → Decoded). f h) (miss (λ _. Unknown) (λ _. false) (λ a e. absurd (let z : ◌≡◌ {A = ℕ} 0 1 = cc in omega arith)) (ranges table) lo hi h o l u)
+    find_ranges h ∙ ap (λ (f : ℕ → Option Instr). f h) (miss (λ _. None) (λ _. false) (λ a e. absurd (let z : ◌≡◌ {A = ℕ} 0 1 = cc in omega arith)) (ranges table) lo hi h o l u)
 
 -- ── blocks: the halfwords of one length that share a quotient, which a decoder's arms go by ──
 
@@ -123,18 +122,18 @@ unfoldable pub blocks_clear : List ℕ → ℕ → ℕ → ℕ → Bool
 blocks_clear ks s a zero = true
 blocks_clear ks s a (suc n) = pick (pick (listed ks a) true (clear (a * s) (a * s + s - 1))) (blocks_clear ks s (a + 1) n) false
 
-pub block_miss : (ks : List ℕ) (s a n h : ℕ) → 0 < s → blocks_clear ks s a n ≡ true → a ≤ h / s → h / s < a + n → NoneOf ks (h / s) → find table h ≡ Unknown
+pub block_miss : (ks : List ℕ) (s a n h : ℕ) → 0 < s → blocks_clear ks s a n ≡ true → a ≤ h / s → h / s < a + n → NoneOf ks (h / s) → find table h ≡ None
 unfolding blocks_clear
 block_miss ks s a n h p o l u r =
     let e = div-add-mod' h s in
     let m = mod-lt h p in
     at_block n a (h / s) o l u (omega arith) (omega arith) r
   where
-    at_block : (n a q : ℕ) → blocks_clear ks s a n ≡ true → a ≤ q → q < a + n → q * s ≤ h → h < q * s + s → NoneOf ks q → find table h ≡ Unknown
+    at_block : (n a q : ℕ) → blocks_clear ks s a n ≡ true → a ≤ q → q < a + n → q * s ≤ h → h < q * s + s → NoneOf ks q → find table h ≡ None
     at_block zero a q o l u f g r = absurd (omega arith)
     at_block (suc n) a q o l u f g r =
         let w = both (pick (listed ks a) true (clear (a * s) (a * s + s - 1))) (blocks_clear ks s (a + 1) n) o in
-        by_test (λ _. find table h ≡ Unknown) (eqb q a)
+        by_test (λ _. find table h ≡ None) (eqb q a)
         (λ t.
         let q≡ = eqb-true q a t in
         ⊎_elim (λ x. absurd (not_listed ks a (rw q≡ at r) x)) (λ x. row_miss (a * s) (a * s + s - 1) h x (rw q≡ at f) (omega (arith, rw q≡ at g)))
@@ -142,7 +141,7 @@ block_miss ks s a n h p o l u r =
         (λ t. let d = eqb-false q a t in at_block n (a + 1) q w.1 (omega arith) (omega arith) f g r)
 
 -- the blocks of one group: the halfwords of a length of m blocks that share a quotient
-pub rest_miss : (ks : List ℕ) (s m g h : ℕ) → 0 < s → 0 < m → blocks_clear ks s (g * m) m ≡ true → h / (s * m) ≡ g → NoneOf ks (h / s) → find table h ≡ Unknown
+pub rest_miss : (ks : List ℕ) (s m g h : ℕ) → 0 < s → 0 < m → blocks_clear ks s (g * m) m ≡ true → h / (s * m) ≡ g → NoneOf ks (h / s) → find table h ≡ None
 rest_miss ks s m g h p q o e r =
     let d : h / s / m ≡ g = div-div-eq-div-mul h s m ∙ e in
     let x = div-add-mod' (h / s) m in

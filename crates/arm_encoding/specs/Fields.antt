@@ -6,8 +6,7 @@ use Rattle.std.proofs.Math.Arith.{digits_lt, digits_div, digits_mod, mod-mul}
 use borrow.Author.Tests.{lt-ltb, le-ltb, ltb-true, ltb-false, eqb-true}
 use Rattle.arm_word.specs.Choice.{pick}
 use Rattle.arm_word.specs.ChoiceLaws.{by_test}
-use Rattle.arm_encoding.specs.declared.Encoded.{Encoded}
-use Rattle.arm_encoding.specs.Encoding.{Form, put, one, refused, swap32, narrow, widen}
+use Rattle.arm_encoding.specs.Encoding.{Encoded, Form, put, one, refused, swap32, narrow, widen}
 
 -- ── three digits over a multiple of their block ──
 

@@ -3,9 +3,9 @@
 
 ghost use Rattle.std.specs.Prelude.{◌≡◌, ◌+◌, ◌*◌, ◌/◌, ◌%◌, ◌≤◌, ◌<◌};
 ghost use Rattle.arm_encoding.specs.Encoding as spec;
-ghost use Rattle.arm_encoding.specs.Encoding.{form, encode_of, decode_of, find, table};
+ghost use Rattle.arm_encoding.specs.Encoding.{form, encoded, encode_of, decode_of, find, table};
 
-#[derive(Drop)]
+#[derive(Clone, Copy, PartialEq, Eq)]
 pub enum Instr {
     Shli(u8, u8, u8),
     Shri(u8, u8, u8),
@@ -43,92 +43,106 @@ pub enum Instr {
     Bl(u32),
 }
 
-#[derive(Drop)]
-pub struct Encoded {
-    pub status: u32,
-    pub count: u32,
-    pub first: u16,
-    pub second: u16,
+// The halfwords of an instruction, in their order.
+#[derive(Clone, Copy, PartialEq, Eq)]
+pub enum Halfwords {
+    One(u16),
+    Two(u16, u16),
 }
 
-#[derive(Drop)]
-pub enum Decoded {
-    Known(Instr),
-    Unknown,
+// A form's first halfword, and what its three fields stay below, from the highest.
+#[derive(Clone, Copy)]
+struct Limits {
+    base: u32,
+    high: u32,
+    middle: u32,
+    low: u32,
 }
 
-// A field out of range.
-fn refused() -> Encoded
-    ensures { result ≡ spec.refused }
-{
-    Encoded {
-        status: 35,
-        count: 0,
-        first: 0,
-        second: 0,
-    }
-}
-
-// The halfword of a form with these fields.
-fn put(base: u32, high: u32, middle: u32, low: u32, a: u32, b: u32, c: u32) -> Encoded
-    requires { base + high * middle * low ≤ 65536 }
-    ensures { result ≡ spec.put (form base high middle low) a b c }
-{
-    if a >= high {
-        return refused();
-    }
-    if b >= middle {
-        return refused();
-    }
-    if c >= low {
-        return refused();
-    }
-    Encoded {
-        status: 0,
-        count: 1,
-        first: (base + ((a * middle + b) * low + c)) as u16,
-        second: 0,
+impl Limits {
+    // The halfword of a form with these fields; none if one is out of range.
+    fn put(self, a: u32, b: u32, c: u32) -> Option<Halfwords>
+        requires { self.base + self.high * self.middle * self.low ≤ 65536 }
+        ensures { encoded result ≡ spec.put (form self.base self.high self.middle self.low) a b c }
+    {
+        if a >= self.high {
+            return None;
+        }
+        if b >= self.middle {
+            return None;
+        }
+        if c >= self.low {
+            return None;
+        }
+        let fields = (a * self.middle + b) * self.low + c;
+        Some(Halfwords::One((self.base + fields) as u16))
     }
 }
 
 // +64a +8b +c.
-fn three(base: u32, high: u32, a: u8, b: u8, c: u8) -> Encoded
+fn three(base: u32, high: u32, a: u8, b: u8, c: u8) -> Option<Halfwords>
     requires { base + high * 8 * 8 ≤ 65536 }
-    ensures { result ≡ spec.put (form base high 8 8) a b c }
+    ensures { encoded result ≡ spec.put (form base high 8 8) a b c }
 {
-    put(base, high, 8, 8, a as u32, b as u32, c as u32)
+    let limits = Limits {
+        base,
+        high,
+        middle: 8,
+        low: 8,
+    };
+    limits.put(a as u32, b as u32, c as u32)
 }
 
 // The same with a shift's count, 1 to 32.
-fn shift(base: u32, n: u8, b: u8, c: u8) -> Encoded
+fn shift(base: u32, n: u8, b: u8, c: u8) -> Option<Halfwords>
     requires { base + 32 * 8 * 8 ≤ 65536 }
-    ensures { result ≡ spec.put (form base 32 8 8) (spec.swap32 n) b c }
+    ensures { encoded result ≡ spec.put (form base 32 8 8) (spec.swap32 n) b c }
 {
     three(base, 32, swap32(n), b, c)
 }
 
 // +256b +c, or +8b +c.
-fn pair(base: u32, low: u32, b: u8, c: u8) -> Encoded
+fn pair(base: u32, low: u32, b: u8, c: u8) -> Option<Halfwords>
     requires { base + 1 * 8 * low ≤ 65536 }
-    ensures { result ≡ spec.put (form base 1 8 low) 0 b c }
+    ensures { encoded result ≡ spec.put (form base 1 8 low) 0 b c }
 {
-    put(base, 1, 8, low, 0, b as u32, c as u32)
+    let limits = Limits {
+        base,
+        high: 1,
+        middle: 8,
+        low,
+    };
+    limits.put(0, b as u32, c as u32)
+}
+
+// A form of one field.
+fn alone(base: u32, low: u32, c: u32) -> Option<Halfwords>
+    requires { base + 1 * 1 * low ≤ 65536 }
+    ensures { encoded result ≡ spec.put (form base 1 1 low) 0 0 c }
+{
+    let limits = Limits {
+        base,
+        high: 1,
+        middle: 1,
+        low,
+    };
+    limits.put(0, 0, c)
 }
 
 // +c.
-fn single(base: u32, low: u32, c: u8) -> Encoded
+fn single(base: u32, low: u32, c: u8) -> Option<Halfwords>
     requires { base + 1 * 1 * low ≤ 65536 }
-    ensures { result ≡ spec.put (form base 1 1 low) 0 0 c }
+    ensures { encoded result ≡ spec.put (form base 1 1 low) 0 0 c }
 {
-    put(base, 1, 1, low, 0, 0, c as u32)
+    alone(base, low, c as u32)
 }
 
 // A distance.
-fn branch(base: u32, half: u32, k: u32) -> Encoded
+fn branch(base: u32, half: u32, k: u32) -> Option<Halfwords>
     requires { (0 < half) × (base + 1 * 1 * (2 * half) ≤ 65536) }
-    ensures { result ≡ spec.put (form base 1 1 (2 * half)) 0 0 (spec.narrow half k) }
+    ensures { encoded result ≡ spec.put (form base 1 1 (2 * half)) 0 0 (spec.narrow half k) }
 {
-    put(base, 1, 1, 2 * half, 0, 0, narrow(half, k))
+    alone(base, 2 * half, narrow(half, k))
 }
 
 // A shift's count and its field: 32 is stored as 0, and 0 is out of range.
@@ -159,24 +173,19 @@ fn narrow(half: u32, d: u32) -> u32
 }
 
 // BL, two halfwords.
-fn long(k: u32) -> Encoded
-    ensures { result ≡ spec.put_long (spec.narrow 2097152 k) }
+fn long(k: u32) -> Option<Halfwords>
+    ensures { encoded result ≡ spec.put_long (spec.narrow 2097152 k) }
 {
     let f = narrow(2097152, k);
     if f >= 4194304 {
-        return refused();
+        return None;
     }
-    Encoded {
-        status: 0,
-        count: 2,
-        first: (0xF000 + f / 2048) as u16,
-        second: (0xF800 + f % 2048) as u16,
-    }
+    Some(Halfwords::Two((0xF000 + f / 2048) as u16, (0xF800 + f % 2048) as u16))
 }
 
-// The halfwords of an instruction; 35 and none if a field is out of range.
-pub fn encode(i: Instr) -> Encoded
-    ensures { result ≡ encode_of i }
+// The halfwords of an instruction; none if a field is out of range, which is 35 for C (`encoded`).
+pub fn encode(i: Instr) -> Option<Halfwords>
+    ensures { encoded result ≡ encode_of i }
 {
     match i {
         Instr::Shli(n, l, d) => three(0x0000, 32, n, l, d),
@@ -227,110 +236,83 @@ fn widen(half: u32, f: u32) -> u32
     f + (0xFFFF_FFFF - 2 * half + 1)
 }
 
-// The fields of a halfword, by the bits that they stand in: each arm of the decoder works out its own.
-fn bits0to2(h: u16) -> u8
-    ensures { result ≡ h % 8 }
+// The fields of a halfword, each arm of the decoder works out its own: one that stands at the multiples of `unit`, below `size` ..
+fn field(h: u16, unit: u16, size: u16) -> u8
+    requires { (0 < unit) × (0 < size) × (size ≤ 256) }
+    ensures { result ≡ h / unit % size }
 {
-    (h % 8) as u8
+    (h / unit % size) as u8
 }
 
-fn bits3to5(h: u16) -> u8
-    ensures { result ≡ h / 8 % 8 }
+// .. and the lowest one.
+fn low(h: u16, size: u16) -> u8
+    requires { (0 < size) × (size ≤ 256) }
+    ensures { result ≡ h % size }
 {
-    (h / 8 % 8) as u8
-}
-
-fn bits6to8(h: u16) -> u8
-    ensures { result ≡ h / 64 % 8 }
-{
-    (h / 64 % 8) as u8
-}
-
-fn bits6to10(h: u16) -> u8
-    ensures { result ≡ h / 64 % 32 }
-{
-    (h / 64 % 32) as u8
-}
-
-fn bits8to10(h: u16) -> u8
-    ensures { result ≡ h / 256 % 8 }
-{
-    (h / 256 % 8) as u8
-}
-
-fn bits0to6(h: u16) -> u8
-    ensures { result ≡ h % 128 }
-{
-    (h % 128) as u8
-}
-
-fn bits0to7(h: u16) -> u8
-    ensures { result ≡ h % 256 }
-{
-    (h % 256) as u8
+    (h % size) as u8
 }
 
 // ADDR, SUBR.
-fn arithmetic(h: u16) -> Decoded
+fn arithmetic(h: u16) -> Option<Instr>
     requires { h / 2048 ≡ 3 }
     ensures { result ≡ find table h }
 {
     match h / 512 {
-        0b0001100 => Decoded::Known(Instr::Addr(bits6to8(h), bits3to5(h), bits0to2(h))),
-        0b0001101 => Decoded::Known(Instr::Subr(bits6to8(h), bits3to5(h), bits0to2(h))),
-        _ => Decoded::Unknown,
+        0b0001100 => Some(Instr::Addr(field(h, 64, 8), field(h, 8, 8), low(h, 8))),
+        0b0001101 => Some(Instr::Subr(field(h, 64, 8), field(h, 8, 8), low(h, 8))),
+        _ => None,
     }
 }
 
 // ANDR to MVNR.
-fn logical(h: u16) -> Decoded
+fn logical(h: u16) -> Option<Instr>
     requires { h / 2048 ≡ 8 }
     ensures { result ≡ find table h }
 {
     match h / 64 {
-        0b0100000000 => Decoded::Known(Instr::Andr(bits3to5(h), bits0to2(h))),
-        0b0100000001 => Decoded::Known(Instr::Xorr(bits3to5(h), bits0to2(h))),
-        0b0100000010 => Decoded::Known(Instr::Shl(bits3to5(h), bits0to2(h))),
-        0b0100000011 => Decoded::Known(Instr::Shr(bits3to5(h), bits0to2(h))),
-        0b0100001001 => Decoded::Known(Instr::Negr(bits3to5(h), bits0to2(h))),
-        0b0100001100 => Decoded::Known(Instr::Orr(bits3to5(h), bits0to2(h))),
-        0b0100001101 => Decoded::Known(Instr::Mul(bits3to5(h), bits0to2(h))),
-        0b0100001111 => Decoded::Known(Instr::Mvnr(bits3to5(h), bits0to2(h))),
-        _ => Decoded::Unknown,
+        0b0100000000 => Some(Instr::Andr(field(h, 8, 8), low(h, 8))),
+        0b0100000001 => Some(Instr::Xorr(field(h, 8, 8), low(h, 8))),
+        0b0100000010 => Some(Instr::Shl(field(h, 8, 8), low(h, 8))),
+        0b0100000011 => Some(Instr::Shr(field(h, 8, 8), low(h, 8))),
+        0b0100001001 => Some(Instr::Negr(field(h, 8, 8), low(h, 8))),
+        0b0100001100 => Some(Instr::Orr(field(h, 8, 8), low(h, 8))),
+        0b0100001101 => Some(Instr::Mul(field(h, 8, 8), low(h, 8))),
+        0b0100001111 => Some(Instr::Mvnr(field(h, 8, 8), low(h, 8))),
+        _ => None,
     }
 }
 
 // STR.
-fn stored(h: u16) -> Decoded
+fn stored(h: u16) -> Option<Instr>
     requires { h / 2048 ≡ 10 }
     ensures { result ≡ find table h }
 {
     match h / 512 {
-        0b0101000 => Decoded::Known(Instr::Str(bits6to8(h), bits3to5(h), bits0to2(h))),
-        _ => Decoded::Unknown,
+        0b0101000 => Some(Instr::Str(field(h, 64, 8), field(h, 8, 8), low(h, 8))),
+        _ => None,
     }
 }
 
 // LDR.
-fn loaded(h: u16) -> Decoded
+fn loaded(h: u16) -> Option<Instr>
     requires { h / 2048 ≡ 11 }
     ensures { result ≡ find table h }
 {
     match h / 512 {
-        0b0101100 => Decoded::Known(Instr::Ldr(bits6to8(h), bits3to5(h), bits0to2(h))),
-        _ => Decoded::Unknown,
+        0b0101100 => Some(Instr::Ldr(field(h, 64, 8), field(h, 8, 8), low(h, 8))),
+        _ => None,
     }
 }
 
 // INCSP, DECSP.
-fn pointer(h: u16) -> Decoded
+fn pointer(h: u16) -> Option<Instr>
     requires { h / 2048 ≡ 22 }
     ensures { result ≡ find table h }
 {
     match h / 128 {
-        0b101100000 => Decoded::Known(Instr::Incsp(bits0to6(h))),
-        0b101100001 => Decoded::Known(Instr::Decsp(bits0to6(h))),
-        _ => Decoded::Unknown,
+        0b101100000 => Some(Instr::Incsp(low(h, 128))),
+        0b101100001 => Some(Instr::Decsp(low(h, 128))),
+        _ => None,
     }
 }
 
@@ -342,69 +324,69 @@ fn near(h: u16) -> u32
 }
 
 // BEQ, BNE.
-fn equality(h: u16) -> Decoded
+fn equality(h: u16) -> Option<Instr>
     requires { h / 2048 ≡ 26 }
     ensures { result ≡ find table h }
 {
     match h / 256 {
-        0b11010000 => Decoded::Known(Instr::Beq(near(h))),
-        0b11010001 => Decoded::Known(Instr::Bne(near(h))),
-        _ => Decoded::Unknown,
+        0b11010000 => Some(Instr::Beq(near(h))),
+        0b11010001 => Some(Instr::Bne(near(h))),
+        _ => None,
     }
 }
 
 // BGE, BLT, SVC.
-fn order(h: u16) -> Decoded
+fn order(h: u16) -> Option<Instr>
     requires { h / 2048 ≡ 27 }
     ensures { result ≡ find table h }
 {
     match h / 256 {
-        0b11011010 => Decoded::Known(Instr::Bge(near(h))),
-        0b11011011 => Decoded::Known(Instr::Blt(near(h))),
-        0b11011111 => Decoded::Known(Instr::Svc(bits0to7(h))),
-        _ => Decoded::Unknown,
+        0b11011010 => Some(Instr::Bge(near(h))),
+        0b11011011 => Some(Instr::Blt(near(h))),
+        0b11011111 => Some(Instr::Svc(low(h, 256))),
+        _ => None,
     }
 }
 
 // BL.
-fn far(h: u16, second: u16) -> Decoded
+fn far(h: u16, second: u16) -> Option<Instr>
     requires { h / 2048 ≡ 30 }
     ensures { result ≡ decode_of h second }
 {
     if second < 0xF800 {
-        return Decoded::Unknown;
+        return None;
     }
     let f = ((h - 0xF000) as u32) * 2048 + ((second - 0xF800) as u32);
-    Decoded::Known(Instr::Bl(widen(2097152, f)))
+    Some(Instr::Bl(widen(2097152, f)))
 }
 
 // The instruction of a halfword, and of the one after it for F000 to F7FF.
-pub fn decode(h: u16, second: u16) -> Decoded
+pub fn decode(h: u16, second: u16) -> Option<Instr>
     ensures { result ≡ decode_of h second }
 {
     match h / 2048 {
-        0b00000 => Decoded::Known(Instr::Shli(bits6to10(h), bits3to5(h), bits0to2(h))),
-        0b00001 => Decoded::Known(Instr::Shri(swap32(bits6to10(h)), bits3to5(h), bits0to2(h))),
-        0b00010 => Decoded::Known(Instr::Ashri(swap32(bits6to10(h)), bits3to5(h), bits0to2(h))),
+        0b00000 => Some(Instr::Shli(field(h, 64, 32), field(h, 8, 8), low(h, 8))),
+        0b00001 => Some(Instr::Shri(swap32(field(h, 64, 32)), field(h, 8, 8), low(h, 8))),
+        0b00010 => Some(Instr::Ashri(swap32(field(h, 64, 32)), field(h, 8, 8), low(h, 8))),
         0b00011 => arithmetic(h),
-        0b00100 => Decoded::Known(Instr::Movi(bits8to10(h), bits0to7(h))),
-        0b00110 => Decoded::Known(Instr::Addi(bits8to10(h), bits0to7(h))),
-        0b00111 => Decoded::Known(Instr::Subi(bits8to10(h), bits0to7(h))),
+        0b00100 => Some(Instr::Movi(field(h, 256, 8), low(h, 256))),
+        0b00110 => Some(Instr::Addi(field(h, 256, 8), low(h, 256))),
+        0b00111 => Some(Instr::Subi(field(h, 256, 8), low(h, 256))),
         0b01000 => logical(h),
-        0b01001 => Decoded::Known(Instr::Ldrpci(bits8to10(h), bits0to7(h))),
+        0b01001 => Some(Instr::Ldrpci(field(h, 256, 8), low(h, 256))),
         0b01010 => stored(h),
         0b01011 => loaded(h),
-        0b01100 => Decoded::Known(Instr::Stri(bits6to10(h), bits3to5(h), bits0to2(h))),
-        0b01101 => Decoded::Known(Instr::Ldri(bits6to10(h), bits3to5(h), bits0to2(h))),
-        0b10010 => Decoded::Known(Instr::Strspi(bits8to10(h), bits0to7(h))),
-        0b10011 => Decoded::Known(Instr::Ldrspi(bits8to10(h), bits0to7(h))),
-        0b10100 => Decoded::Known(Instr::Addpci(bits8to10(h), bits0to7(h))),
-        0b10101 => Decoded::Known(Instr::Addspi(bits8to10(h), bits0to7(h))),
+        0b01100 => Some(Instr::Stri(field(h, 64, 32), field(h, 8, 8), low(h, 8))),
+        0b01101 => Some(Instr::Ldri(field(h, 64, 32), field(h, 8, 8), low(h, 8))),
+        0b10010 => Some(Instr::Strspi(field(h, 256, 8), low(h, 256))),
+        0b10011 => Some(Instr::Ldrspi(field(h, 256, 8), low(h, 256))),
+        0b10100 => Some(Instr::Addpci(field(h, 256, 8), low(h, 256))),
+        0b10101 => Some(Instr::Addspi(field(h, 256, 8), low(h, 256))),
         0b10110 => pointer(h),
         0b11010 => equality(h),
         0b11011 => order(h),
-        0b11100 => Decoded::Known(Instr::Bu(widen(1024, (h % 2048) as u32))),
+        0b11100 => Some(Instr::Bu(widen(1024, (h % 2048) as u32))),
         0b11110 => far(h, second),
-        _ => Decoded::Unknown,
+        _ => None,
     }
 }

@@ -2,6 +2,7 @@
 pub mod Step
 pub mod MachineRun
 pub mod Start
+pub mod Refusals
 pub mod Trace
 pub mod Turns
 pub mod StepLaws

@@ -1,39 +1,37 @@
 -- Code that holds an instruction's bytes at pc executes it: what a translation's proof asks of a step. Laws; rests on Step and on the encoding's laws.
-use Rattle.std.specs.Prelude.{◌≡◌, List, ◌∷◌, ◌++◌, ℕ, ◌+◌, ◌*◌, ◌/◌, ◌%◌, ◌≤◌, length, get_or, ltb}
+use Rattle.std.specs.Prelude.{◌≡◌, List, ◌∷◌, ◌++◌, ℕ, ◌+◌, ◌*◌, ◌/◌, ◌%◌, ◌≤◌, Some, length, get_or, ltb}
 use Rattle.std.proofs.Common.{sym, ◌∙◌, add-zero, add_assoc, arith, length-append, get_or-append-add}
 use Rattle.std.proofs.Math.Path.{ap}
 use borrow.Author.Tests.{lt-ltb, le-leb, eq-eqb}
 use Rattle.arm_word.specs.Choice.{pick}
 use Rattle.arm_word.specs.ChoiceLaws.{by_test}
-use Rattle.arm_encoding.specs.Encoding.{one, two, encode_of}
+use Rattle.arm_encoding.specs.Encoding.{Encoded, one, two, encode_of}
 use Rattle.arm_encoding.specs.EncodingLaws.{decode_encode, known_below}
 use Rattle.arm_encoding.specs.EncodingBytes.{encoded_bytes}
 use Rattle.arm_encoding.specs.EncodingByteLaws.{encode_whole, length_bytes}
-use Rattle.arm_encoding.specs.declared.Encoded.{Encoded}
 use Rattle.arm_encoding.specs.declared.Instr.{Instr}
 use Rattle.arm_state.specs.Effects.{execute_of}
 use Rattle.arm_state.specs.declared.Machine.{Machine}
-use Rattle.arm_machine.specs.declared.Fetched.TheVariants.{Halves}
 use Rattle.arm_machine.specs.Step.{half_at, with_second, fetch_of, fetched, decoded, once_of}
 
 -- ── by the halfwords that the code holds ──
 
 module _ (c : List ℕ) (pc : ℕ) (i : Instr) (ok : (encode_of i).status ≡ 0) (even : pc % 2 ≡ 0) (room : pc + 2 * (encode_of i).count ≤ length c)
     (first : half_at c pc ≡ (encode_of i).first) (second : (encode_of i).count ≡ 2 → half_at c (pc + 2) ≡ (encode_of i).second) where
-  fetch_is : fetch_of c pc ≡ Halves (encode_of i).first (encode_of i).second
+  fetch_is : fetch_of c pc ≡ Some ((encode_of i).first, (encode_of i).second)
   unfolding fetch_of with_second
   fetch_is =
       let h = (encode_of i).first in
       let s = (encode_of i).second in
-      by_test (λ t. encode_of i ≡ pick t (one h) (two h s) → fetch_of c pc ≡ Halves h s) (ltb h 0xF000)
+      by_test (λ t. encode_of i ≡ pick t (one h) (two h s) → fetch_of c pc ≡ Some (h, s)) (ltb h 0xF000)
       (λ e q.
       let n : (encode_of i).count ≡ 1 = ap (λ (x : Encoded). x.count) q in
       let z : s ≡ 0 = ap (λ (x : Encoded). x.second) q in
-      rw (eq-eqb (pc % 2) 0 even, le-leb (pc + 2) (length c) (omega arith), first, e) (ap (Halves h) (sym z)))
+      rw (eq-eqb (pc % 2) 0 even, le-leb (pc + 2) (length c) (omega arith), first, e) (ap (λ (x : ℕ). Some (h, x)) (sym z)))
       (λ e q.
       let n : (encode_of i).count ≡ 2 = ap (λ (x : Encoded). x.count) q in
       rw (eq-eqb (pc % 2) 0 even, le-leb (pc + 2) (length c) (omega arith), first, e, lt-ltb h 0xF800 (known_below h s i (decode_encode i ok)), le-leb (pc + 4) (length c) (omega arith))
-      (ap (Halves h) (second n)))
+      (ap (λ (x : ℕ). Some (h, x)) (second n)))
       (encode_whole i ok)
 
   pub once_at : (w : List ℕ) (m : Machine) → m.pc ≡ pc → once_of c w m ≡ execute_of c w m i

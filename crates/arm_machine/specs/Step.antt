@@ -1,17 +1,12 @@
 -- One step. Definitions.
-use Rattle.std.specs.Prelude.{ℕ, ◌+◌, ◌*◌, ◌%◌, List, length, get_or, ltb, leb, eqb}
+use Rattle.std.specs.Prelude.{ℕ, ◌+◌, ◌*◌, ◌%◌, List, Option, Some, None, length, get_or, ltb, leb, eqb}
 use Rattle.arm_word.specs.Choice.{pick}
 use Rattle.arm_encoding.specs.Encoding.{decode_of}
-use Rattle.arm_encoding.specs.declared.Decoded.{Decoded}
-use Rattle.arm_encoding.specs.declared.Decoded.TheVariants.{Known, Unknown}
+use Rattle.arm_encoding.specs.declared.Instr.{Instr}
 use Rattle.arm_classes.specs.Classes.{classify_of}
-use Rattle.arm_classes.specs.declared.Unlisted.{Unlisted}
-use Rattle.arm_classes.specs.declared.Unlisted.TheVariants.{Undefined, Unsupported}
 use Rattle.arm_state.specs.Effects.{Effect, fault, unsupported, stops, execute_of}
 use Rattle.arm_state.specs.declared.Machine.{Machine}
 use Rattle.arm_state.specs.declared.Stepped.{Stepped}
-use Rattle.arm_machine.specs.declared.Fetched.{Fetched}
-use Rattle.arm_machine.specs.declared.Fetched.TheVariants.{Halves, Outside}
 
 -- The machine: "Code is bytes at addresses 0 up, at most 65,536; data is lent words ... at most 16,384"
 abbrev pub code_limit : ℕ
@@ -25,28 +20,28 @@ abbrev pub half_at : List ℕ → ℕ → ℕ
 half_at c a = get_or c a 0 + 256 * get_or c (a + 1) 0
 
 -- "21 ... a byte outside code (both halves for F000 to F7FF)"
-unfoldable pub with_second : List ℕ → ℕ → ℕ → Fetched
+unfoldable pub with_second : List ℕ → ℕ → ℕ → Option (ℕ × ℕ)
 with_second c a h =
-    pick (ltb h 0xF000) (Halves h 0)
-    (pick (ltb h 0xF800) (pick (leb (a + 4) (length c)) (Halves h (half_at c (a + 2))) Outside) (Halves h 0))
+    pick (ltb h 0xF000) (Some (h, 0))
+    (pick (ltb h 0xF800) (pick (leb (a + 4) (length c)) (Some (h, half_at c (a + 2))) None) (Some (h, 0)))
 
 -- "21 pc odd or a byte outside code"
-unfoldable pub fetch_of : List ℕ → ℕ → Fetched
-fetch_of c a = pick (eqb (a % 2) 0) (pick (leb (a + 2) (length c)) (with_second c a (half_at c a)) Outside) Outside
+unfoldable pub fetch_of : List ℕ → ℕ → Option (ℕ × ℕ)
+fetch_of c a = pick (eqb (a % 2) 0) (pick (leb (a + 2) (length c)) (with_second c a (half_at c a)) None) None
 
 -- "22 not in this list", which request 2026-05 splits: 22 for what Armv6-M leaves undefined or unpredictable, "26, tested with it, for all else that we don't take"
-abbrev pub unlisted : Machine → Unlisted → Stepped
-unlisted m Undefined = fault m 22
-unlisted m (Unsupported class) = unsupported m class
+abbrev pub unlisted : Machine → Option ℕ → Stepped
+unlisted m None = fault m 22
+unlisted m (Some class) = unsupported m class
 
 -- halfwords and what they decode to
-abbrev pub decoded : List ℕ → List ℕ → Machine → ℕ → ℕ → Decoded → Effect
-decoded c w m h k (Known i) = execute_of c w m i
-decoded c w m h k Unknown = stops w (unlisted m (classify_of h k))
+abbrev pub decoded : List ℕ → List ℕ → Machine → ℕ → ℕ → Option Instr → Effect
+decoded c w m h k (Some i) = execute_of c w m i
+decoded c w m h k None = stops w (unlisted m (classify_of h k))
 
-abbrev pub fetched : List ℕ → List ℕ → Machine → Fetched → Effect
-fetched c w m (Halves h k) = decoded c w m h k (decode_of h k)
-fetched c w m Outside = stops w (fault m 21)
+abbrev pub fetched : List ℕ → List ℕ → Machine → Option (ℕ × ℕ) → Effect
+fetched c w m (Some at) = decoded c w m at.0 at.1 (decode_of at.0 at.1)
+fetched c w m None = stops w (fault m 21)
 
 -- the step rule: fetch, decode, execute
 unfoldable pub once_of : List ℕ → List ℕ → Machine → Effect

@@ -1,5 +1,5 @@
 -- The laws of a step: a fault and an SVC keep everything, at most one word of data changes, and it is the one listed. Rests on Step and on arm_state's outcomes.
-use Rattle.std.specs.Prelude.{◌≡◌, refl, false, ◌⊎◌, List, [], ◌∷◌, ℕ, ◌<◌, length, get_or, set, ltb, eqb}
+use Rattle.std.specs.Prelude.{◌≡◌, refl, false, ◌⊎◌, List, [], ◌∷◌, ℕ, ◌<◌, Option, Some, None, length, get_or, set, ltb, eqb}
 use Rattle.std.proofs.Common.{sym, inl, inr, arith, length-set, get_or-set_same, get_or-set_other, lit<, eqb-true}
 use Rattle.std.proofs.lemmas.List.{set-get_or}
 use Rattle.std.proofs.lemmas.Bool.{eqb-false}
@@ -7,17 +7,12 @@ use Rattle.arm_word.specs.Choice.{pick}
 use Rattle.arm_word.specs.ChoiceLaws.{by_test}
 use Rattle.arm_word.specs.Access.{Access, stored}
 use Rattle.arm_encoding.specs.Encoding.{decode_of}
-use Rattle.arm_encoding.specs.declared.Decoded.{Decoded}
-use Rattle.arm_encoding.specs.declared.Decoded.TheVariants.{Known, Unknown}
+use Rattle.arm_encoding.specs.declared.Instr.{Instr}
 use Rattle.arm_classes.specs.Classes.{classify_of}
-use Rattle.arm_classes.specs.declared.Unlisted.{Unlisted}
-use Rattle.arm_classes.specs.declared.Unlisted.TheVariants.{Undefined, Unsupported}
 use Rattle.arm_state.specs.Effects.{Effect, done, fault, stops}
 use Rattle.arm_state.specs.Outcome.{Outcome, completed, loaded_word, stored_word, ended_by, faulted}
 use Rattle.arm_state.proofs.OutcomeLaws.{execute_outcome}
 use Rattle.arm_state.specs.declared.Machine.{Machine}
-use Rattle.arm_machine.specs.declared.Fetched.{Fetched}
-use Rattle.arm_machine.specs.declared.Fetched.TheVariants.{Halves, Outside}
 use Rattle.arm_machine.specs.Step.{fetch_of, unlisted, decoded, fetched, once_of, refusal_of, step_of, code_limit, memory_limit}
 
 -- ── a step has one of the outcomes of an instruction ──
@@ -26,17 +21,17 @@ pub once_outcome : (c w : List ℕ) (m : Machine) → Outcome w m (once_of c w m
 unfolding once_of
 once_outcome c w m = got (fetch_of c m.pc)
   where
-    outside : (s : Unlisted) → Outcome w m (stops w (unlisted m s))
-    outside Undefined = faulted 22 0 (lit< tt)
-    outside (Unsupported class) = faulted 26 class (lit< tt)
+    outside : (s : Option ℕ) → Outcome w m (stops w (unlisted m s))
+    outside None = faulted 22 0 (lit< tt)
+    outside (Some class) = faulted 26 class (lit< tt)
 
-    known : (h k : ℕ) (d : Decoded) → Outcome w m (decoded c w m h k d)
-    known h k (Known i) = execute_outcome c w m i
-    known h k Unknown = outside (classify_of h k)
+    known : (h k : ℕ) (d : Option Instr) → Outcome w m (decoded c w m h k d)
+    known h k (Some i) = execute_outcome c w m i
+    known h k None = outside (classify_of h k)
 
-    got : (f : Fetched) → Outcome w m (fetched c w m f)
-    got (Halves h k) = known h k (decode_of h k)
-    got Outside = faulted 21 0 (lit< tt)
+    got : (f : Option (ℕ × ℕ)) → Outcome w m (fetched c w m f)
+    got (Some at) = known at.0 at.1 (decode_of at.0 at.1)
+    got None = faulted 21 0 (lit< tt)
 
 -- a refusal is 0, 31 or 32
 pub refusal_large : (c w : List ℕ) → eqb (refusal_of c w) 0 ≡ false → 1 < refusal_of c w

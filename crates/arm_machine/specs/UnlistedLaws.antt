@@ -1,19 +1,15 @@
 -- Where pc stands at halfwords that are no instruction of the list, a step and a run hand on what they are, and nothing changes. Laws; rests on Step and MachineRun.
-use Rattle.std.specs.Prelude.{◌≡◌, List, ℕ, suc}
+use Rattle.std.specs.Prelude.{◌≡◌, List, ℕ, suc, Option, Some, None}
 use Rattle.std.proofs.Math.Path.{ap}
 use Rattle.std.proofs.Common.{◌∙◌, eq-eqb}
 use Rattle.arm_encoding.specs.Encoding.{decode_of}
-use Rattle.arm_encoding.specs.declared.Decoded.TheVariants.{Unknown}
 use Rattle.arm_classes.specs.Classes.{classify_of}
-use Rattle.arm_classes.specs.declared.Unlisted.{Unlisted}
-use Rattle.arm_classes.specs.declared.Unlisted.TheVariants.{Undefined, Unsupported}
 use Rattle.arm_state.specs.Effects.{stops}
 use Rattle.arm_state.specs.declared.Machine.{Machine}
-use Rattle.arm_machine.specs.declared.Fetched.TheVariants.{Halves}
 use Rattle.arm_machine.specs.Step.{fetch_of, unlisted, decoded, fetched, once_of, refusal_of, step_of}
 use Rattle.arm_machine.specs.MachineRun.{run_after, ran, run_from, run_of}
 
-module _ (c w : List ℕ) (m : Machine) (h k : ℕ) (accepted : refusal_of c w ≡ 0) (at : fetch_of c m.pc ≡ Halves h k) (outside : decode_of h k ≡ Unknown) where
+module _ (c w : List ℕ) (m : Machine) (h k : ℕ) (accepted : refusal_of c w ≡ 0) (at : fetch_of c m.pc ≡ Some (h, k)) (outside : decode_of h k ≡ None) where
   once_unlisted : once_of c w m ≡ stops w (unlisted m (classify_of h k))
   unfolding once_of
   once_unlisted = ap (fetched c w m) at ∙ ap (decoded c w m h k) outside
@@ -28,6 +24,6 @@ module _ (c w : List ℕ) (m : Machine) (h k : ℕ) (accepted : refusal_of c w �
   unfolding run_of run_from
   run_unlisted n = rw (eq-eqb (refusal_of c w) 0 accepted) (stopped (classify_of h k) once_unlisted)
     where
-      stopped : (s : Unlisted) → once_of c w m ≡ stops w (unlisted m s) → run_from (suc n) 0 c w m ≡ run_after (ran (unlisted m s) 0) w
-      stopped Undefined e = rw e
-      stopped (Unsupported class) e = rw e
+      stopped : (s : Option ℕ) → once_of c w m ≡ stops w (unlisted m s) → run_from (suc n) 0 c w m ≡ run_after (ran (unlisted m s) 0) w
+      stopped None e = rw e
+      stopped (Some class) e = rw e

@@ -1,5 +1,5 @@
 -- The flags, instruction by instruction: what a comparison's branches go by, the carries at the edges, and which flags stay. Laws; rests on Effects and on arm_word's CarryLaws.
-use Rattle.std.specs.Prelude.{◌≡◌, refl, Bool, true, false, not, List, ℕ, ◌+◌, ◌-◌, ◌*◌, ◌/◌, ◌%◌, ◌<◌, length}
+use Rattle.std.specs.Prelude.{◌≡◌, refl, Bool, true, false, not, List, ℕ, ◌+◌, ◌-◌, ◌*◌, ◌/◌, ◌%◌, ◌<◌, length, Option, Some, None}
 use Rattle.std.proofs.Math.Path.{ap}
 use Rattle.std.proofs.Common.{◌∙◌, arith}
 use Rattle.std.proofs.Math.Dec.{leb, eqb}
@@ -16,10 +16,6 @@ use Rattle.arm_encoding.specs.declared.Instr.TheVariants.{Mvnr, Str, Ldr}
 use Rattle.arm_encoding.specs.declared.Instr.TheVariants.{Stri, Ldri, Incsp, Decsp, Svc, Beq, Bne, Bge, Blt, Bu, Bl}
 use Rattle.arm_state.specs.State.{reg, next, takes, result, subtracts, shifts_left, shifts_right, shifts_right_signed, less, moves, jump, branch, link}
 use Rattle.arm_state.specs.Effects.{goes, aligned_of, slot_of, code_word, load_slot, load_at, load, store_slot, store_at, store, execute_of}
-use Rattle.arm_state.specs.declared.Aligned.{Aligned}
-use Rattle.arm_state.specs.declared.Aligned.TheVariants.{Address, Not}
-use Rattle.arm_state.specs.declared.Slot.{Slot}
-use Rattle.arm_state.specs.declared.Slot.TheVariants.{At, Nowhere}
 use Rattle.arm_state.specs.declared.Machine.{Machine}
 use Rattle.arm_state.specs.KeptFlags.{sets_of, Kept, flags_after}
 
@@ -115,28 +111,28 @@ load_flags : (c w : List ℕ) (m : Machine) (d a : ℕ) → flags_after (load c 
 unfolding load takes
 load_flags c w m d a = at (aligned_of a)
   where
-    in_data : (s : Slot) → flags_after (load_slot w m d s) ≡ m.flags
-    in_data (At k) = refl
-    in_data Nowhere = refl
+    in_data : (s : Option ℕ) → flags_after (load_slot w m d s) ≡ m.flags
+    in_data (Some k) = refl
+    in_data None = refl
 
-    at : (x : Aligned) → flags_after (load_at c w m d x) ≡ m.flags
-    at (Address b) =
+    at : (x : Option ℕ) → flags_after (load_at c w m d x) ≡ m.flags
+    at (Some b) =
         by_test (λ t. flags_after (pick t (goes w (takes m d (code_word c b))) (load_slot w m d (slot_of b (length w)))) ≡ m.flags) (leb (b + 4) (length c))
         (λ _. refl)
         (λ _. in_data (slot_of b (length w)))
-    at Not = refl
+    at None = refl
 
 store_flags : (w : List ℕ) (m : Machine) (d a : ℕ) → flags_after (store w m d a) ≡ m.flags
 unfolding store next
 store_flags w m d a = at (aligned_of a)
   where
-    in_data : (s : Slot) → flags_after (store_slot w m d s) ≡ m.flags
-    in_data (At k) = refl
-    in_data Nowhere = refl
+    in_data : (s : Option ℕ) → flags_after (store_slot w m d s) ≡ m.flags
+    in_data (Some k) = refl
+    in_data None = refl
 
-    at : (x : Aligned) → flags_after (store_at w m d x) ≡ m.flags
-    at (Address b) = in_data (slot_of b (length w))
-    at Not = refl
+    at : (x : Option ℕ) → flags_after (store_at w m d x) ≡ m.flags
+    at (Some b) = in_data (slot_of b (length w))
+    at None = refl
 
 branch_flags : (m : Machine) (b : Bool) (k : ℕ) → (branch m b k).flags ≡ m.flags
 unfolding branch jump next

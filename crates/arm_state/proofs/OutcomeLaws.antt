@@ -1,5 +1,5 @@
 -- Every instruction comes to one of the five outcomes. Laws; rests on Effects and Lookup.
-use Rattle.std.specs.Prelude.{◌≡◌, refl, Bool, true, false, List, ℕ, ◌+◌, ◌<◌, length, get_or, leb}
+use Rattle.std.specs.Prelude.{◌≡◌, refl, Bool, true, false, List, ℕ, ◌+◌, ◌<◌, length, get_or, leb, Option, Some, None}
 use Rattle.std.proofs.Common.{length-set, lit<}
 use Rattle.arm_word.specs.Choice.{pick}
 use Rattle.arm_word.specs.ChoiceLaws.{by_test}
@@ -12,10 +12,6 @@ use Rattle.arm_state.specs.Effects.{goes, aligned_of, slot_of, code_word, load_s
 use Rattle.arm_state.specs.Lookup.{slot_lt}
 use Rattle.arm_state.specs.declared.Flags.{Flags}
 use Rattle.arm_state.specs.declared.Machine.{Machine}
-use Rattle.arm_state.specs.declared.Aligned.{Aligned}
-use Rattle.arm_state.specs.declared.Aligned.TheVariants.{Address, Not}
-use Rattle.arm_state.specs.declared.Slot.{Slot}
-use Rattle.arm_state.specs.declared.Slot.TheVariants.{At, Nowhere}
 use Rattle.arm_state.specs.Outcome.{Outcome, completed, loaded_word, stored_word, ended_by, faulted}
 
 -- ── every change keeps the number of registers ──
@@ -55,28 +51,28 @@ load_outcome : (c w : List ℕ) (m : Machine) (d a : ℕ) → Outcome w m (load 
 unfolding load
 load_outcome c w m d a = at (aligned_of a)
   where
-    in_data : (s : Slot) → ((k : ℕ) → s ≡ At k → k < length w) → Outcome w m (load_slot w m d s)
-    in_data (At k) lt = loaded_word (takes m d (get_or w k 0)) k (takes_registers m d (get_or w k 0)) (lt k refl)
-    in_data Nowhere lt = faulted 24 0 (lit< tt)
+    in_data : (s : Option ℕ) → ((k : ℕ) → s ≡ Some k → k < length w) → Outcome w m (load_slot w m d s)
+    in_data (Some k) lt = loaded_word (takes m d (get_or w k 0)) k (takes_registers m d (get_or w k 0)) (lt k refl)
+    in_data None lt = faulted 24 0 (lit< tt)
 
-    at : (x : Aligned) → Outcome w m (load_at c w m d x)
-    at (Address b) =
+    at : (x : Option ℕ) → Outcome w m (load_at c w m d x)
+    at (Some b) =
         by_test (λ t. Outcome w m (pick t (goes w (takes m d (code_word c b))) (load_slot w m d (slot_of b (length w))))) (leb (b + 4) (length c))
         (λ _. completed _ (takes_registers m d _))
         (λ _. in_data (slot_of b (length w)) (slot_lt b (length w)))
-    at Not = faulted 23 0 (lit< tt)
+    at None = faulted 23 0 (lit< tt)
 
 store_outcome : (w : List ℕ) (m : Machine) (d a : ℕ) → Outcome w m (store w m d a)
 unfolding store
 store_outcome w m d a = at (aligned_of a)
   where
-    in_data : (s : Slot) → ((k : ℕ) → s ≡ At k → k < length w) → Outcome w m (store_slot w m d s)
-    in_data (At k) lt = stored_word (next m) k (reg m d) (next_registers m) (lt k refl)
-    in_data Nowhere lt = faulted 24 0 (lit< tt)
+    in_data : (s : Option ℕ) → ((k : ℕ) → s ≡ Some k → k < length w) → Outcome w m (store_slot w m d s)
+    in_data (Some k) lt = stored_word (next m) k (reg m d) (next_registers m) (lt k refl)
+    in_data None lt = faulted 24 0 (lit< tt)
 
-    at : (x : Aligned) → Outcome w m (store_at w m d x)
-    at (Address b) = in_data (slot_of b (length w)) (slot_lt b (length w))
-    at Not = faulted 23 0 (lit< tt)
+    at : (x : Option ℕ) → Outcome w m (store_at w m d x)
+    at (Some b) = in_data (slot_of b (length w)) (slot_lt b (length w))
+    at None = faulted 23 0 (lit< tt)
 
 pub execute_outcome : (c w : List ℕ) (m : Machine) (i : Instr) → Outcome w m (execute_of c w m i)
 unfolding execute_of

@@ -1,5 +1,5 @@
 -- What an instruction does: the state after it, the words of data, and the data access that it made. Definitions.
-use Rattle.std.specs.Prelude.{ℕ, ◌+◌, ◌-◌, ◌*◌, ◌/◌, ◌%◌, not, List, [], ◌∷◌, length, get_or, set, ltb, leb, eqb}
+use Rattle.std.specs.Prelude.{ℕ, ◌+◌, ◌-◌, ◌*◌, ◌/◌, ◌%◌, not, List, [], ◌∷◌, length, get_or, set, ltb, leb, eqb, Option, Some, None}
 use Rattle.std.specs.Int.Bits.{bit_and, bit_or, bit_xor}
 use Rattle.arm_word.specs.Choice.{pick}
 use Rattle.arm_word.specs.Word.{add, sub, mul, complement}
@@ -11,10 +11,6 @@ use Rattle.arm_encoding.specs.declared.Instr.TheVariants.{Stri, Ldri, Incsp, Dec
 use Rattle.arm_state.specs.State.{base, reg, next, takes, sets, adds, subtracts, shifts_left, shifts_right, shifts_right_signed, less, moves, jump, branch, link, here}
 use Rattle.arm_state.specs.declared.Machine.{Machine}
 use Rattle.arm_state.specs.declared.Stepped.{Stepped}
-use Rattle.arm_state.specs.declared.Aligned.{Aligned}
-use Rattle.arm_state.specs.declared.Aligned.TheVariants.{Address, Not}
-use Rattle.arm_state.specs.declared.Slot.{Slot}
-use Rattle.arm_state.specs.declared.Slot.TheVariants.{At, Nowhere}
 
 -- what a call hands back, and the words of data after it
 pub record After : Type 0 where
@@ -56,12 +52,12 @@ stops w s = record { after = after s w; access = [] }
 -- ── addresses ──
 
 -- "23 address not a multiple of 4"
-abbrev pub aligned_of : ℕ → Aligned
-aligned_of a = pick (eqb (a % 4) 0) (Address a) Not
+abbrev pub aligned_of : ℕ → Option ℕ
+aligned_of a = pick (eqb (a % 4) 0) (Some a) None
 
 -- the data word at an address, n words being lent
-unfoldable pub slot_of : ℕ → ℕ → Slot
-slot_of a n = pick (leb base a) (pick (ltb ((a - base) / 4) n) (At ((a - base) / 4)) Nowhere) Nowhere
+unfoldable pub slot_of : ℕ → ℕ → Option ℕ
+slot_of a n = pick (leb base a) (pick (ltb ((a - base) / 4) n) (Some ((a - base) / 4)) None) None
 
 -- "Halfwords and words are little-endian"
 abbrev pub code_word : List ℕ → ℕ → ℕ
@@ -70,27 +66,27 @@ code_word c a = get_or c a 0 + 256 * get_or c (a + 1) 0 + 65536 * get_or c (a + 
 -- ── loads: "Loads read code or data" ──
 
 -- from data: the word, listed
-abbrev pub load_slot : List ℕ → Machine → ℕ → Slot → Effect
-load_slot w m d (At k) = record { after = after (done (takes m d (get_or w k 0))) w; access = loaded k (get_or w k 0) ∷ [] }
-load_slot w m d Nowhere = stops w (fault m 24)
+abbrev pub load_slot : List ℕ → Machine → ℕ → Option ℕ → Effect
+load_slot w m d (Some k) = record { after = after (done (takes m d (get_or w k 0))) w; access = loaded k (get_or w k 0) ∷ [] }
+load_slot w m d None = stops w (fault m 24)
 
 -- "24 a byte outside memory": the four bytes lie in code, or the word in data
-abbrev pub load_at : List ℕ → List ℕ → Machine → ℕ → Aligned → Effect
-load_at c w m d (Address a) = pick (leb (a + 4) (length c)) (goes w (takes m d (code_word c a))) (load_slot w m d (slot_of a (length w)))
-load_at c w m d Not = stops w (fault m 23)
+abbrev pub load_at : List ℕ → List ℕ → Machine → ℕ → Option ℕ → Effect
+load_at c w m d (Some a) = pick (leb (a + 4) (length c)) (goes w (takes m d (code_word c a))) (load_slot w m d (slot_of a (length w)))
+load_at c w m d None = stops w (fault m 23)
 
 unfoldable pub load : List ℕ → List ℕ → Machine → ℕ → ℕ → Effect
 load c w m d a = load_at c w m d (aligned_of a)
 
 -- ── stores: "stores only data" ──
 
-abbrev pub store_slot : List ℕ → Machine → ℕ → Slot → Effect
-store_slot w m d (At k) = record { after = after (done (next m)) (set w k (reg m d)); access = stored k (get_or w k 0) (reg m d) ∷ [] }
-store_slot w m d Nowhere = stops w (fault m 24)
+abbrev pub store_slot : List ℕ → Machine → ℕ → Option ℕ → Effect
+store_slot w m d (Some k) = record { after = after (done (next m)) (set w k (reg m d)); access = stored k (get_or w k 0) (reg m d) ∷ [] }
+store_slot w m d None = stops w (fault m 24)
 
-abbrev pub store_at : List ℕ → Machine → ℕ → Aligned → Effect
-store_at w m d (Address a) = store_slot w m d (slot_of a (length w))
-store_at w m d Not = stops w (fault m 23)
+abbrev pub store_at : List ℕ → Machine → ℕ → Option ℕ → Effect
+store_at w m d (Some a) = store_slot w m d (slot_of a (length w))
+store_at w m d None = stops w (fault m 23)
 
 unfoldable pub store : List ℕ → Machine → ℕ → ℕ → Effect
 store w m d a = store_at w m d (aligned_of a)

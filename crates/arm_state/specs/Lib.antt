@@ -1,5 +1,6 @@
 -- The machine's state and its instructions.
 pub mod State
+pub mod Stops
 pub mod Effects
 pub mod Lookup
 pub mod Outcome

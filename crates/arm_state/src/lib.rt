@@ -5,6 +5,7 @@
 ghost use Rattle.std.specs.Prelude.{◌≡◌, ◌+◌, ◌*◌, ◌<◌, eqb, length, get_or};
 ghost use Rattle.arm_state.specs.State as state;
 ghost use Rattle.arm_state.specs.Effects as spec;
+ghost use Rattle.arm_state.specs.Stops as stops;
 ghost use Rattle.arm_state.specs.Lookup as lookup;
 ghost use Rattle.arm_state.specs.MachineCore as core;
 ghost use Rattle.arm_word.specs.Choice.{pick};
@@ -15,7 +16,7 @@ use arm_word::{
 };
 
 // The flags of Armv6-M's manual: negative, zero, carry, overflow.
-#[derive(Clone, Copy)]
+#[derive(Clone, Copy, Default, PartialEq, Eq)]
 pub struct Flags {
     pub n: bool,
     pub z: bool,
@@ -23,7 +24,7 @@ pub struct Flags {
     pub v: bool,
 }
 
-#[derive(Clone, Copy)]
+#[derive(Clone, Copy, Default, PartialEq, Eq)]
 pub struct Machine {
     pub regs: [u32; 8],
     pub sp: u32,
@@ -33,7 +34,7 @@ pub struct Machine {
 }
 
 // What a step did: status 0 one instruction, 1 an SVC, whose number is `number`, 21 to 24 a fault, 26 one whose class is
-// `number`, 31 and 32 a refusal.
+// `number`, 31 and 32 a refusal. Numbers, and no enum: it is what C gets, and what demand_1 to demand_4 of theorem_demands compare.
 #[derive(Clone, Copy)]
 pub struct Stepped {
     pub machine: Machine,
@@ -59,33 +60,33 @@ pub struct Core {
     pub flags: Flags,
 }
 
-// What an instruction did, as in `Stepped`.
-#[derive(Clone, Copy)]
-pub struct Turn {
-    pub core: Core,
-    pub status: u32,
-    pub number: u32,
-}
-
-// The word at an address.
-#[derive(Clone, Copy)]
-pub enum Found {
-    Word(u32),
+// Why an instruction faults; `number` has document 01's number.
+#[derive(Clone, Copy, PartialEq, Eq)]
+pub enum Fault {
+    // pc odd, or a byte outside code.
+    Fetch,
+    // Halfwords that Armv6-M leaves undefined or unpredictable.
+    Undefined,
+    // An address that is not a multiple of 4.
+    Misaligned,
+    // A byte outside memory.
     Outside,
+    // An instruction that Armv6-M defines and the list doesn't have, with its class.
+    Unsupported(u32),
 }
 
-// The data word, by number, at an address.
-#[derive(Clone, Copy)]
-pub enum Slot {
-    At(usize),
-    Nowhere,
+// What ends a run before its limit.
+#[derive(Clone, Copy, PartialEq, Eq)]
+pub enum Stop {
+    Svc(u8),
+    Fault(Fault),
 }
 
-// An address that is a multiple of 4.
+// The state that an instruction stopped in, which is as it was before it.
 #[derive(Clone, Copy)]
-pub enum Aligned {
-    Address(u32),
-    Not,
+pub struct Stopped {
+    pub core: Core,
+    pub stop: Stop,
 }
 
 // The words that a program of d declared words and depth n needs.
@@ -93,6 +94,51 @@ pub fn needed(d: u32, n: u32) -> u64
     ensures { result ≡ state.needed d n }
 {
     (d as u64) + 2 * (n as u64) + 8
+}
+
+impl Fault {
+    pub fn number(self) -> u32
+        ensures { result ≡ stops.fault_number self }
+    {
+        match self {
+            Fault::Fetch => 21,
+            Fault::Undefined => 22,
+            Fault::Misaligned => 23,
+            Fault::Outside => 24,
+            Fault::Unsupported(_) => 26,
+        }
+    }
+
+    // The class of an instruction that isn't supported, 0 of any other fault.
+    pub fn class(self) -> u32
+        ensures { result ≡ stops.class_of self }
+    {
+        match self {
+            Fault::Unsupported(class) => class,
+            _ => 0,
+        }
+    }
+}
+
+impl Stop {
+    pub fn status(self) -> u32
+        ensures { result ≡ stops.status_of self }
+    {
+        match self {
+            Stop::Svc(_) => 1,
+            Stop::Fault(fault) => fault.number(),
+        }
+    }
+
+    // The SVC's number, or the fault's class.
+    pub fn number(self) -> u32
+        ensures { result ≡ stops.number_of self }
+    {
+        match self {
+            Stop::Svc(u) => u as u32,
+            Stop::Fault(fault) => fault.class(),
+        }
+    }
 }
 
 impl Machine {
@@ -108,7 +154,7 @@ impl Machine {
             sp: add(Machine::DATA_BASE, bytes),
             lr: 0,
             pc: 0,
-            flags: no_flags(),
+            flags: Flags::default(),
         }
     }
 
@@ -116,47 +162,7 @@ impl Machine {
     pub fn zeros() -> Machine
         ensures { result ≡ state.zeros }
     {
-        Machine {
-            regs: [0; 8],
-            sp: 0,
-            lr: 0,
-            pc: 0,
-            flags: no_flags(),
-        }
-    }
-
-    // The same state as a run holds it.
-    pub fn core(self) -> Core
-        ensures { core.whole result ≡ self }
-    {
-        let r = self.regs;
-        let flags = self.flags;
-        Core {
-            r0: r[0],
-            r1: r[1],
-            r2: r[2],
-            r3: r[3],
-            r4: r[4],
-            r5: r[5],
-            r6: r[6],
-            r7: r[7],
-            sp: self.sp,
-            lr: self.lr,
-            pc: self.pc,
-            flags,
-        }
-    }
-}
-
-// All four 0.
-fn no_flags() -> Flags
-    ensures { result ≡ state.no_flags }
-{
-    Flags {
-        n: false,
-        z: false,
-        c: false,
-        v: false,
+        Machine::default()
     }
 }
 
@@ -185,23 +191,47 @@ fn choose(test: bool, a: u32, b: u32) -> u32
     if test { a } else { b }
 }
 
-impl Core {
-    // The same state as callers hold it.
-    pub fn whole(self) -> Machine
-        ensures { result ≡ core.whole self }
-    {
-        let flags = self.flags;
-        Machine {
-            regs: [
-                self.r0, self.r1, self.r2, self.r3, self.r4, self.r5, self.r6, self.r7,
-            ],
-            sp: self.sp,
-            lr: self.lr,
-            pc: self.pc,
-            flags,
+// The same state as a run holds it.
+impl From<Machine> for Core {
+    ghost from_gives = { λ m c. core.whole c ≡ m };
+
+    fn from(machine: Machine) -> Core {
+        let r = machine.regs;
+        Core {
+            r0: r[0],
+            r1: r[1],
+            r2: r[2],
+            r3: r[3],
+            r4: r[4],
+            r5: r[5],
+            r6: r[6],
+            r7: r[7],
+            sp: machine.sp,
+            lr: machine.lr,
+            pc: machine.pc,
+            flags: machine.flags,
         }
     }
+}
 
+// The same state as callers hold it.
+impl From<Core> for Machine {
+    ghost from_gives = { λ c m. m ≡ core.whole c };
+
+    fn from(core: Core) -> Machine {
+        Machine {
+            regs: [
+                core.r0, core.r1, core.r2, core.r3, core.r4, core.r5, core.r6, core.r7,
+            ],
+            sp: core.sp,
+            lr: core.lr,
+            pc: core.pc,
+            flags: core.flags,
+        }
+    }
+}
+
+impl Core {
     // r0 to r3, or v.
     fn low(self, r: u8, v: u32) -> u32
         ensures { result ≡ core.low self r v }
@@ -264,63 +294,63 @@ impl Core {
     }
 
     // A register takes a result, and these are the flags after it.
-    fn result(self, d: u8, v: u32, flags: Flags) -> Turn
-        ensures { core.stepped result ≡ spec.done (state.result (core.whole self) d v flags) }
+    fn result(self, d: u8, v: u32, flags: Flags) -> Core
+        ensures { core.whole result ≡ state.result (core.whole self) d v flags }
     {
         let mut m = self.takes(d, v);
         m.flags = flags;
-        m.done()
+        m
     }
 
     // N and Z of a result; C and V stay.
-    pub fn sets(self, d: u8, r: u32) -> Turn
-        ensures { core.stepped result ≡ spec.done (state.sets (core.whole self) d r) }
+    pub fn sets(self, d: u8, r: u32) -> Core
+        ensures { core.whole result ≡ state.sets (core.whole self) d r }
     {
         let f = self.flags;
         self.result(d, r, flags_of(r, f.c, f.v))
     }
 
     // All four, of a sum.
-    fn summed(self, d: u8, s: Sum) -> Turn
-        ensures { core.stepped result ≡ spec.done (state.summed (core.whole self) d s) }
+    fn summed(self, d: u8, s: Sum) -> Core
+        ensures { core.whole result ≡ state.summed (core.whole self) d s }
     {
         self.result(d, s.word, flags_of(s.word, s.carry, s.overflow))
     }
 
-    pub fn adds(self, d: u8, x: u32, y: u32) -> Turn
-        ensures { core.stepped result ≡ spec.done (state.adds (core.whole self) d x y) }
+    pub fn adds(self, d: u8, x: u32, y: u32) -> Core
+        ensures { core.whole result ≡ state.adds (core.whole self) d x y }
     {
         self.summed(d, with_carry(x, y, false))
     }
 
-    pub fn subtracts(self, d: u8, x: u32, y: u32) -> Turn
-        ensures { core.stepped result ≡ spec.done (state.subtracts (core.whole self) d x y) }
+    pub fn subtracts(self, d: u8, x: u32, y: u32) -> Core
+        ensures { core.whole result ≡ state.subtracts (core.whole self) d x y }
     {
         self.summed(d, with_carry(x, complement(y), true))
     }
 
     // N, Z and C of a shift by n places; by none, C stays. V stays.
-    fn shifted(self, d: u8, r: u32, n: u32, last: bool) -> Turn
-        ensures { core.stepped result ≡ spec.done (state.shifted (core.whole self) d r n last) }
+    fn shifted(self, d: u8, r: u32, n: u32, last: bool) -> Core
+        ensures { core.whole result ≡ state.shifted (core.whole self) d r n last }
     {
         let f = self.flags;
         self.result(d, r, flags_of(r, carry_of(n, f.c, last), f.v))
     }
 
-    pub fn shifts_left(self, d: u8, x: u32, n: u32) -> Turn
-        ensures { core.stepped result ≡ spec.done (state.shifts_left (core.whole self) d x n) }
+    pub fn shifts_left(self, d: u8, x: u32, n: u32) -> Core
+        ensures { core.whole result ≡ state.shifts_left (core.whole self) d x n }
     {
         self.shifted(d, shift_left(x, n), n, last_left(x, n))
     }
 
-    pub fn shifts_right(self, d: u8, x: u32, n: u32) -> Turn
-        ensures { core.stepped result ≡ spec.done (state.shifts_right (core.whole self) d x n) }
+    pub fn shifts_right(self, d: u8, x: u32, n: u32) -> Core
+        ensures { core.whole result ≡ state.shifts_right (core.whole self) d x n }
     {
         self.shifted(d, shift_right(x, n), n, last_right(x, n))
     }
 
-    pub fn shifts_right_signed(self, d: u8, x: u32, n: u32) -> Turn
-        ensures { core.stepped result ≡ spec.done (state.shifts_right_signed (core.whole self) d x n) }
+    pub fn shifts_right_signed(self, d: u8, x: u32, n: u32) -> Core
+        ensures { core.whole result ≡ state.shifts_right_signed (core.whole self) d x n }
     {
         self.shifted(d, shift_right_signed(x, n), n, last_right(x, n))
     }
@@ -369,118 +399,82 @@ impl Core {
         sub(a, a % 4)
     }
 
-    pub fn done(self) -> Turn
-        ensures { core.stepped result ≡ spec.done (core.whole self) }
-    {
-        Turn {
-            core: self,
-            status: 0,
-            number: 0,
-        }
-    }
-
     // An SVC: the state stays as it was.
-    pub fn ended(self, u: u8) -> Turn
-        ensures { core.stepped result ≡ spec.ended (core.whole self) u }
+    pub fn ended(self, u: u8) -> Stopped
+        ensures { core.stopped result ≡ spec.ended (core.whole self) u }
     {
-        Turn {
+        Stopped {
             core: self,
-            status: 1,
-            number: u as u32,
+            stop: Stop::Svc(u),
         }
     }
 
-    // A fault or a refusal: the state stays as it was.
-    pub fn fault(self, f: u32) -> Turn
-        ensures { core.stepped result ≡ spec.fault (core.whole self) f }
+    // A fault: the state stays as it was.
+    pub fn fault(self, fault: Fault) -> Stopped
+        ensures { core.stopped result ≡ core.faulted (core.whole self) fault }
     {
-        Turn {
+        Stopped {
             core: self,
-            status: f,
-            number: 0,
+            stop: Stop::Fault(fault),
         }
     }
 
-    // A fault by an instruction that Armv6-M defines and the list doesn't have, with its class.
-    pub fn unsupported(self, class: u32) -> Turn
-        ensures { core.stepped result ≡ spec.unsupported (core.whole self) class }
-    {
-        Turn {
-            core: self,
-            status: 26,
-            number: class,
-        }
-    }
-
-    pub fn load(self, d: u8, a: u32, code: &[u8], memory: &[u32]) -> Turn
+    pub fn load(self, d: u8, a: u32, code: &[u8], memory: &[u32]) -> Result<Core, Stopped>
         ensures { core.turned result memory.now ≡ (spec.load code.now memory.now (core.whole self) d a).after }
     {
-        let Aligned::Address(at) = align(a) else {
-            return self.fault(23);
+        let Some(at) = align(a) else {
+            return Err(self.fault(Fault::Misaligned));
         };
-        let Found::Word(v) = word_at(code, memory, at) else {
-            return self.fault(24);
+        let Some(v) = word_at(code, memory, at) else {
+            return Err(self.fault(Fault::Outside));
         };
-        self.takes(d, v).done()
+        Ok(self.takes(d, v))
     }
 
-    pub fn store(self, d: u8, a: u32, memory: &mut [u32]) -> Turn
+    pub fn store(self, d: u8, a: u32, memory: &mut [u32]) -> Result<Core, Stopped>
         ensures { core.turned result memory.new ≡ (spec.store memory.old (core.whole self) d a).after }
     {
-        let Aligned::Address(at) = align(a) else {
-            return self.fault(23);
+        let Some(at) = align(a) else {
+            return Err(self.fault(Fault::Misaligned));
         };
-        let Slot::At(i) = slot_of(at, memory.len()) else {
-            return self.fault(24);
+        let Some(i) = slot_of(at, memory.len()) else {
+            return Err(self.fault(Fault::Outside));
         };
         memory[i] = self.reg(d);
-        self.next().done()
+        Ok(self.next())
     }
 }
 
-fn align(a: u32) -> Aligned
+// An address that is a multiple of 4.
+fn align(a: u32) -> Option<u32>
     ensures { result ≡ spec.aligned_of a }
 {
-    if a % 4 == 0 {
-        Aligned::Address(a)
-    } else {
-        Aligned::Not
-    }
+    if a % 4 == 0 { Some(a) } else { None }
 }
 
-fn slot_of(a: u32, n: usize) -> Slot
+// The data word, by number, at an address; n words are lent.
+fn slot_of(a: u32, n: usize) -> Option<usize>
     ensures { result ≡ spec.slot_of a n }
 {
     if a < Machine::DATA_BASE {
-        return Slot::Nowhere;
+        return None;
     }
     let i = (sub(a, Machine::DATA_BASE) / 4) as usize;
-    if i < n { Slot::At(i) } else { Slot::Nowhere }
-}
-
-fn byte(code: &[u8], i: usize) -> u32
-    requires { i < length code.now }
-    ensures { (result ≡ get_or code.now i 0) × (result < 256) }
-{
-    code[i] as u32
+    if i < n { Some(i) } else { None }
 }
 
 // The word at an address, of code or of data.
-fn word_at(code: &[u8], memory: &[u32], a: u32) -> Found
+fn word_at(code: &[u8], memory: &[u32], a: u32) -> Option<u32>
     ensures { result ≡ lookup.word_at code.now memory.now a }
 {
     let i = a as usize;
     if i + 4 <= code.len() {
-        let w = byte(code, i)
-            + 256 * byte(code, i + 1)
-            + 65536 * byte(code, i + 2)
-            + 16777216 * byte(code, i + 3);
-        return Found::Word(w);
+        return Some(u32::from_le_bytes([code[i], code[i + 1], code[i + 2], code[i + 3]]));
     }
-    let Slot::At(j) = slot_of(a, memory.len()) else {
-        return Found::Outside;
+    let Some(j) = slot_of(a, memory.len()) else {
+        return None;
     };
-    Found::Word(memory[j])
+    Some(memory[j])
 }
 
 pub fn times4(u: u8) -> u32

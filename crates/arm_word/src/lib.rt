@@ -1,15 +1,13 @@
 // 32-bit words: the helper functions that the machine's arithmetic is made of.
 #![tactic(auto)]
 
-ghost use Rattle.std.specs.Prelude.{◌≡◌, ◌-◌, ◌<◌, slice_index};
+ghost use Rattle.std.specs.Prelude.{◌≡◌, ◌-◌, ◌<◌, get_or, slice_index};
 ghost use Rattle.arm_word.specs.Word as spec;
 ghost use Rattle.arm_word.specs.Carry as carries;
 ghost use Rattle.arm_word.specs.CarryLaws as laws;
 
-use std::num::{wrapping_add_u32, wrapping_sub_u32};
-
 // A sum with carry: its low word, the carry out, and whether the signed sum is out of range.
-#[derive(Drop)]
+#[derive(Clone, Copy, PartialEq, Eq)]
 pub struct Sum {
     pub word: u32,
     pub carry: bool,
@@ -20,28 +18,28 @@ pub struct Sum {
 pub fn add(a: u32, b: u32) -> u32
     ensures { result ≡ spec.add a b }
 {
-    wrapping_add_u32(a, b)
+    a.wrapping_add(b)
 }
 
 // The difference, wrapped.
 pub fn sub(a: u32, b: u32) -> u32
     ensures { result ≡ spec.sub a b }
 {
-    wrapping_sub_u32(a, b)
+    a.wrapping_sub(b)
 }
 
 // The product's low word.
 pub fn low_product(a: u32, b: u32) -> u32
     ensures { result ≡ spec.mul a b }
 {
-    ((a as u64) * (b as u64) % 0x1_0000_0000) as u32
+    a.wrapping_mul(b)
 }
 
 // Every bit the other way.
 pub fn complement(a: u32) -> u32
     ensures { result ≡ spec.complement a }
 {
-    0xFFFF_FFFF - a
+    !a
 }
 
 // A count above 31 gives 0.
@@ -70,13 +68,13 @@ pub fn shift_right_signed(a: u32, n: u32) -> u32
 pub fn differ(a: bool, b: bool) -> bool
     ensures { result ≡ carries.differ a b }
 {
-    if a { !b } else { b }
+    a != b
 }
 
 fn bit(b: bool) -> u64
     ensures { (result ≡ carries.bit b) × (result < 2) }
 {
-    if b { 1 } else { 0 }
+    b as u64
 }
 
 // Both words have the sign that their sum hasn't.
@@ -106,7 +104,7 @@ pub fn with_carry(x: u32, y: u32, carry: bool) -> Sum
 fn one_less(n: u32) -> u32
     ensures { result ≡ n - 1 }
 {
-    if n == 0 { 0 } else { n - 1 }
+    n.saturating_sub(1)
 }
 
 // The last bit out of a shift by n places, n not 0.
@@ -122,9 +120,16 @@ pub fn last_right(x: u32, n: u32) -> bool
     shift_right(x, one_less(n)) % 2 == 1
 }
 
+// Entry i of a slice, `past` behind its end.
+pub fn entry_or<T: Copy>(entries: &[T], i: usize, past: T) -> T
+    ensures { result ≡ get_or entries.now i past }
+{
+    entries.get(i).copied().unwrap_or(past)
+}
+
 // Word i of a slice, 0 past its end.
 pub fn word_at(words: &[u32], i: usize) -> u32
     ensures { result ≡ slice_index words.now i }
 {
-    if i < words.len() { words[i] } else { 0 }
+    entry_or(words, i, 0)
 }

@@ -5,20 +5,18 @@ ghost use Rattle.std.specs.Prelude.{◌≡◌};
 ghost use Rattle.arm_encoding.specs.Encoding.{decode_of};
 ghost use Rattle.gutilamboy_numbers.specs.Numbers as numbers;
 
-use arm_encoding::Decoded;
-use gutilamboy_numbers::{decoded_words, instruction};
+use gutilamboy_numbers::{decoded_words, encoded_words, instruction};
 
 // Into `out`: status, count, first and second halfword; a number that no instruction has is refused as a field out of range is.
 #[unsafe(no_mangle)]
 pub extern "C" fn gutilamboy_encode(op: u8, a: u8, b: u8, c: u8, k: u32, out: &mut [u32; 4])
     ensures { out.new ≡ numbers.encoded_words (numbers.numbered_encoding (numbers.instruction_of op a b c k)) }
 {
-    let Decoded::Known(i) = instruction(op, a, b, c, k) else {
-        *out = [35, 0, 0, 0];
+    let Some(i) = instruction(op, a, b, c, k) else {
+        *out = encoded_words(None);
         return;
     };
-    let e = arm_encoding::encode(i);
-    *out = [e.status, e.count, e.first as u32, e.second as u32];
+    *out = encoded_words(arm_encoding::encode(i));
 }
 
 // Into `out`: the instruction's number (34 for none), three fields, its distance.

@@ -1,22 +1,20 @@
 -- Numbers and back: an instruction comes back from its numbers, a state from its words, and words from their state. Laws; rests on Numbers.
-use Rattle.std.specs.Prelude.{◌≡◌, refl, List, Bool, true, false, ℕ, zero, suc, ◌+◌, ◌*◌, ◌-◌, ◌/◌, ◌%◌, ◌<◌, length, get_or, set, eqb}
+use Rattle.std.specs.Prelude.{◌≡◌, refl, Option, Some, None, List, Bool, true, false, ℕ, zero, suc, ◌+◌, ◌*◌, ◌-◌, ◌/◌, ◌%◌, ◌<◌, length, get_or, set, eqb}
 use Rattle.std.proofs.Common.{sym, ap, zero-mul, one-mul, arith}
 use Rattle.arm_word.specs.Choice.{pick}
 use Rattle.arm_encoding.specs.declared.Instr.{Instr}
 use Rattle.arm_encoding.specs.declared.Instr.TheVariants.{Shli, Shri, Ashri, Addr, Subr, Movi, Addi, Subi, Ldrpci, Strspi, Ldrspi, Addpci, Addspi, Andr, Xorr, Shl, Shr, Negr, Orr, Mul}
 use Rattle.arm_encoding.specs.declared.Instr.TheVariants.{Mvnr, Str, Ldr}
 use Rattle.arm_encoding.specs.declared.Instr.TheVariants.{Stri, Ldri, Incsp, Decsp, Svc, Beq, Bne, Bge, Blt, Bu, Bl}
-use Rattle.arm_encoding.specs.declared.Decoded.{Decoded}
-use Rattle.arm_encoding.specs.declared.Decoded.TheVariants.{Known, Unknown}
 use Rattle.arm_state.specs.MachineCoreLaws.{elements, elements_are}
 use Rattle.arm_state.specs.declared.Machine.{Machine}
 use Rattle.gutilamboy_numbers.specs.Numbers.{instructions, instruction_of, instruction_words, decoded_words, apsr_flags, apsr_word, words_of_state, state_of}
 
 -- the instruction of five words
-abbrev pub numbered : List ℕ → Decoded
+abbrev pub numbered : List ℕ → Option Instr
 numbered ws = instruction_of (get_or ws 0 0) (get_or ws 1 0) (get_or ws 2 0) (get_or ws 3 0) (get_or ws 4 0)
 
-pub instruction_back : (i : Instr) → numbered (instruction_words i) ≡ Known i
+pub instruction_back : (i : Instr) → numbered (instruction_words i) ≡ Some i
 unfolding instructions instruction_of instruction_words
 instruction_back (Shli a b c) = refl
 instruction_back (Shri a b c) = refl
@@ -54,10 +52,10 @@ instruction_back (Bu k) = refl
 instruction_back (Bl k) = refl
 
 -- and a decoding from its words, none included
-pub decoding_back : (d : Decoded) → numbered (decoded_words d) ≡ d
+pub decoding_back : (d : Option Instr) → numbered (decoded_words d) ≡ d
 unfolding instructions instruction_of decoded_words
-decoding_back (Known i) = instruction_back i
-decoding_back Unknown = refl
+decoding_back (Some i) = instruction_back i
+decoding_back None = refl
 
 -- ── states ──
 

@@ -1,64 +1,61 @@
 -- Instructions, decodings and states as words. Definitions.
-use Rattle.std.specs.Prelude.{ℕ, ◌+◌, ◌/◌, ◌%◌, List, [], ◌∷◌, get_or, eqb}
+use Rattle.std.specs.Prelude.{ℕ, ◌+◌, ◌/◌, ◌%◌, List, [], ◌∷◌, Option, Some, None, get_or, eqb}
 use Rattle.arm_word.specs.Choice.{pick}
 use Rattle.arm_encoding.specs.declared.Instr.{Instr}
 use Rattle.arm_encoding.specs.declared.Instr.TheVariants.{Shli, Shri, Ashri, Addr, Subr, Movi, Addi, Subi, Ldrpci, Strspi, Ldrspi, Addpci, Addspi, Andr, Xorr, Shl, Shr, Negr, Orr, Mul}
 use Rattle.arm_encoding.specs.declared.Instr.TheVariants.{Mvnr, Str, Ldr}
 use Rattle.arm_encoding.specs.declared.Instr.TheVariants.{Stri, Ldri, Incsp, Decsp, Svc, Beq, Bne, Bge, Blt, Bu, Bl}
-use Rattle.arm_encoding.specs.declared.Encoded.{Encoded}
-use Rattle.arm_encoding.specs.declared.Decoded.{Decoded}
-use Rattle.arm_encoding.specs.declared.Decoded.TheVariants.{Known, Unknown}
-use Rattle.arm_encoding.specs.Encoding.{encode_of, refused}
+use Rattle.arm_encoding.specs.Encoding.{Encoded, encode_of, refused}
 use Rattle.arm_state.specs.declared.Flags.{Flags}
 use Rattle.arm_state.specs.declared.Machine.{Machine}
 
 -- the instructions by number, from 0: up to three fields, in the order of document 01's codes from the highest, or a distance
-unfoldable pub instructions : ℕ → ℕ → ℕ → ℕ → List Decoded
+unfoldable pub instructions : ℕ → ℕ → ℕ → ℕ → List (Option Instr)
 instructions a b c k =
-    Known (Shli a b c)
-    ∷ Known (Shri a b c)
-    ∷ Known (Ashri a b c)
-    ∷ Known (Addr a b c)
-    ∷ Known (Subr a b c)
-    ∷ Known (Movi a b)
-    ∷ Known (Addi a b)
-    ∷ Known (Subi a b)
-    ∷ Known (Ldrpci a b)
-    ∷ Known (Strspi a b)
-    ∷ Known (Ldrspi a b)
-    ∷ Known (Addpci a b)
-    ∷ Known (Addspi a b)
-    ∷ Known (Andr a b)
-    ∷ Known (Xorr a b)
-    ∷ Known (Shl a b)
-    ∷ Known (Shr a b)
-    ∷ Known (Negr a b)
-    ∷ Known (Orr a b)
-    ∷ Known (Mul a b)
-    ∷ Known (Mvnr a b)
-    ∷ Known (Str a b c)
-    ∷ Known (Ldr a b c)
-    ∷ Known (Stri a b c)
-    ∷ Known (Ldri a b c)
-    ∷ Known (Incsp a)
-    ∷ Known (Decsp a)
-    ∷ Known (Svc a)
-    ∷ Known (Beq k)
-    ∷ Known (Bne k)
-    ∷ Known (Bge k)
-    ∷ Known (Blt k)
-    ∷ Known (Bu k)
-    ∷ Known (Bl k)
+    Some (Shli a b c)
+    ∷ Some (Shri a b c)
+    ∷ Some (Ashri a b c)
+    ∷ Some (Addr a b c)
+    ∷ Some (Subr a b c)
+    ∷ Some (Movi a b)
+    ∷ Some (Addi a b)
+    ∷ Some (Subi a b)
+    ∷ Some (Ldrpci a b)
+    ∷ Some (Strspi a b)
+    ∷ Some (Ldrspi a b)
+    ∷ Some (Addpci a b)
+    ∷ Some (Addspi a b)
+    ∷ Some (Andr a b)
+    ∷ Some (Xorr a b)
+    ∷ Some (Shl a b)
+    ∷ Some (Shr a b)
+    ∷ Some (Negr a b)
+    ∷ Some (Orr a b)
+    ∷ Some (Mul a b)
+    ∷ Some (Mvnr a b)
+    ∷ Some (Str a b c)
+    ∷ Some (Ldr a b c)
+    ∷ Some (Stri a b c)
+    ∷ Some (Ldri a b c)
+    ∷ Some (Incsp a)
+    ∷ Some (Decsp a)
+    ∷ Some (Svc a)
+    ∷ Some (Beq k)
+    ∷ Some (Bne k)
+    ∷ Some (Bge k)
+    ∷ Some (Blt k)
+    ∷ Some (Bu k)
+    ∷ Some (Bl k)
     ∷ []
 
 -- the instruction of a number; from 34 on none
-unfoldable pub instruction_of : ℕ → ℕ → ℕ → ℕ → ℕ → Decoded
-instruction_of op a b c k = get_or (instructions a b c k) op Unknown
+unfoldable pub instruction_of : ℕ → ℕ → ℕ → ℕ → ℕ → Option Instr
+instruction_of op a b c k = get_or (instructions a b c k) op None
 
 -- "Encoding a field out of range: 35, count 0 and both halfwords 0", and so is a number that no instruction has
-abbrev pub numbered_encoding : Decoded → Encoded
-numbered_encoding (Known i) = encode_of i
-numbered_encoding Unknown = refused
+abbrev pub numbered_encoding : Option Instr → Encoded
+numbered_encoding (Some i) = encode_of i
+numbered_encoding None = refused
 
 -- and back: its number, three fields, its distance
 unfoldable pub instruction_words : Instr → List ℕ
@@ -98,9 +95,9 @@ instruction_words (Bu k) = 32 ∷ 0 ∷ 0 ∷ 0 ∷ k ∷ []
 instruction_words (Bl k) = 33 ∷ 0 ∷ 0 ∷ 0 ∷ k ∷ []
 
 -- a decoding: 34 is none
-unfoldable pub decoded_words : Decoded → List ℕ
-decoded_words (Known i) = instruction_words i
-decoded_words Unknown = 34 ∷ 0 ∷ 0 ∷ 0 ∷ 0 ∷ []
+unfoldable pub decoded_words : Option Instr → List ℕ
+decoded_words (Some i) = instruction_words i
+decoded_words None = 34 ∷ 0 ∷ 0 ∷ 0 ∷ 0 ∷ []
 
 abbrev pub encoded_words : Encoded → List ℕ
 encoded_words e = e.status ∷ e.count ∷ e.first ∷ e.second ∷ []

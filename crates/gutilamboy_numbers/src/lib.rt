@@ -3,51 +3,52 @@
 
 ghost use Rattle.std.specs.Prelude.{◌≡◌, [], ◌∷◌, ◌≤◌};
 ghost use Rattle.arm_word.specs.Choice.{pick};
+ghost use Rattle.arm_encoding.specs.Encoding.{encoded};
 ghost use Rattle.gutilamboy_numbers.specs.Numbers as numbers;
 
-use arm_encoding::{Decoded, Instr};
+use arm_encoding::{Halfwords, Instr};
 use arm_state::{Flags, Machine};
 
 // The instruction of a number, of up to three fields and of a distance; a number from 34 on has none.
-pub fn instruction(op: u8, a: u8, b: u8, c: u8, k: u32) -> Decoded
+pub fn instruction(op: u8, a: u8, b: u8, c: u8, k: u32) -> Option<Instr>
     ensures { result ≡ numbers.instruction_of op a b c k }
 {
     match op {
-        0 => Decoded::Known(Instr::Shli(a, b, c)),
-        1 => Decoded::Known(Instr::Shri(a, b, c)),
-        2 => Decoded::Known(Instr::Ashri(a, b, c)),
-        3 => Decoded::Known(Instr::Addr(a, b, c)),
-        4 => Decoded::Known(Instr::Subr(a, b, c)),
-        5 => Decoded::Known(Instr::Movi(a, b)),
-        6 => Decoded::Known(Instr::Addi(a, b)),
-        7 => Decoded::Known(Instr::Subi(a, b)),
-        8 => Decoded::Known(Instr::Ldrpci(a, b)),
-        9 => Decoded::Known(Instr::Strspi(a, b)),
-        10 => Decoded::Known(Instr::Ldrspi(a, b)),
-        11 => Decoded::Known(Instr::Addpci(a, b)),
-        12 => Decoded::Known(Instr::Addspi(a, b)),
-        13 => Decoded::Known(Instr::Andr(a, b)),
-        14 => Decoded::Known(Instr::Xorr(a, b)),
-        15 => Decoded::Known(Instr::Shl(a, b)),
-        16 => Decoded::Known(Instr::Shr(a, b)),
-        17 => Decoded::Known(Instr::Negr(a, b)),
-        18 => Decoded::Known(Instr::Orr(a, b)),
-        19 => Decoded::Known(Instr::Mul(a, b)),
-        20 => Decoded::Known(Instr::Mvnr(a, b)),
-        21 => Decoded::Known(Instr::Str(a, b, c)),
-        22 => Decoded::Known(Instr::Ldr(a, b, c)),
-        23 => Decoded::Known(Instr::Stri(a, b, c)),
-        24 => Decoded::Known(Instr::Ldri(a, b, c)),
-        25 => Decoded::Known(Instr::Incsp(a)),
-        26 => Decoded::Known(Instr::Decsp(a)),
-        27 => Decoded::Known(Instr::Svc(a)),
-        28 => Decoded::Known(Instr::Beq(k)),
-        29 => Decoded::Known(Instr::Bne(k)),
-        30 => Decoded::Known(Instr::Bge(k)),
-        31 => Decoded::Known(Instr::Blt(k)),
-        32 => Decoded::Known(Instr::Bu(k)),
-        33 => Decoded::Known(Instr::Bl(k)),
-        _ => Decoded::Unknown,
+        0 => Some(Instr::Shli(a, b, c)),
+        1 => Some(Instr::Shri(a, b, c)),
+        2 => Some(Instr::Ashri(a, b, c)),
+        3 => Some(Instr::Addr(a, b, c)),
+        4 => Some(Instr::Subr(a, b, c)),
+        5 => Some(Instr::Movi(a, b)),
+        6 => Some(Instr::Addi(a, b)),
+        7 => Some(Instr::Subi(a, b)),
+        8 => Some(Instr::Ldrpci(a, b)),
+        9 => Some(Instr::Strspi(a, b)),
+        10 => Some(Instr::Ldrspi(a, b)),
+        11 => Some(Instr::Addpci(a, b)),
+        12 => Some(Instr::Addspi(a, b)),
+        13 => Some(Instr::Andr(a, b)),
+        14 => Some(Instr::Xorr(a, b)),
+        15 => Some(Instr::Shl(a, b)),
+        16 => Some(Instr::Shr(a, b)),
+        17 => Some(Instr::Negr(a, b)),
+        18 => Some(Instr::Orr(a, b)),
+        19 => Some(Instr::Mul(a, b)),
+        20 => Some(Instr::Mvnr(a, b)),
+        21 => Some(Instr::Str(a, b, c)),
+        22 => Some(Instr::Ldr(a, b, c)),
+        23 => Some(Instr::Stri(a, b, c)),
+        24 => Some(Instr::Ldri(a, b, c)),
+        25 => Some(Instr::Incsp(a)),
+        26 => Some(Instr::Decsp(a)),
+        27 => Some(Instr::Svc(a)),
+        28 => Some(Instr::Beq(k)),
+        29 => Some(Instr::Bne(k)),
+        30 => Some(Instr::Bge(k)),
+        31 => Some(Instr::Blt(k)),
+        32 => Some(Instr::Bu(k)),
+        33 => Some(Instr::Bl(k)),
+        _ => None,
     }
 }
 
@@ -99,13 +100,24 @@ pub fn instruction_words(i: Instr) -> [u32; 5]
     }
 }
 
-pub fn decoded_words(d: Decoded) -> [u32; 5]
+pub fn decoded_words(d: Option<Instr>) -> [u32; 5]
     ensures { result ≡ numbers.decoded_words d }
 {
-    let Decoded::Known(i) = d else {
+    let Some(i) = d else {
         return row(34, 0, 0, 0, 0);
     };
     instruction_words(i)
+}
+
+// Status, count and both halfwords: 35 and nothing else where a field is out of range.
+pub fn encoded_words(e: Option<Halfwords>) -> [u32; 4]
+    ensures { result ≡ numbers.encoded_words (encoded e) }
+{
+    match e {
+        Some(Halfwords::One(first)) => [0, 1, first as u32, 0],
+        Some(Halfwords::Two(first, second)) => [0, 2, first as u32, second as u32],
+        None => [35, 0, 0, 0],
+    }
 }
 
 // The flags of an APSR word: N in bit 31, Z 30, C 29, V 28. All other bits are ignored.

@@ -1,7 +1,7 @@
 // Document 01's encodings and short runs of the machine, written to standard output.
 #![tactic(auto)]
 
-use arm_encoding::Instr;
+use arm_encoding::{Halfwords, Instr};
 
 fn text(rt: &impl Print, s: &[u8]) {
     let _ = rt.write_all(s);
@@ -20,15 +20,13 @@ fn number(rt: &impl Print, n: u64) {
 // A name and its halfwords, or 35.
 fn encoding(rt: &impl Print, name: &[u8], i: Instr) {
     text(rt, name);
-    let e = arm_encoding::encode(i);
-    if e.status != 0 {
-        number(rt, e.status as u64);
-    }
-    if e.count > 0 {
-        hex(rt, e.first as u32, 4);
-    }
-    if e.count > 1 {
-        hex(rt, e.second as u32, 4);
+    match arm_encoding::encode(i) {
+        None => number(rt, 35),
+        Some(Halfwords::One(first)) => hex(rt, first as u32, 4),
+        Some(Halfwords::Two(first, second)) => {
+            hex(rt, first as u32, 4);
+            hex(rt, second as u32, 4);
+        }
     }
     text(rt, b"\n");
 }

@@ -1,7 +1,7 @@
 -- The lines of a whole image: one after another by the size of each, how long they are, and that they give back its halfwords.
 -- Laws; rests on ImageLines and HalfwordsBack. Assumes nothing.
 use Rattle.std.proofs.Math.Path.{◌≡◌}
-use Rattle.std.specs.Prelude.{refl, Bool, ℕ, zero, suc, ◌+◌, ◌*◌, ◌≤◌, ◌<◌, ltb, eqb, get_or, drop}
+use Rattle.std.specs.Prelude.{refl, Bool, ℕ, zero, suc, ◌+◌, ◌*◌, ◌≤◌, ◌<◌, ltb, eqb, get_or, drop, Option, Some, None}
 use Rattle.std.proofs.Common.{ap, ◌∙◌, length-drop, drop_of_length-le, get_or-drop, drop-drop}
 use Rattle.std.proofs.Math.Bool.{true, false}
 use mathlib.Core.List.{List, [], ◌∷◌, ◌++◌, flatten}
@@ -11,8 +11,6 @@ use Rattle.std.proofs.Math.ListN.{length, length-append}
 use Rattle.arm_word.specs.Choice.{pick}
 use Rattle.arm_word.specs.ChoiceLaws.{by_test}
 use Rattle.arm_encoding.specs.declared.Instr.{Instr}
-use Rattle.arm_encoding.specs.declared.Decoded.{Decoded}
-use Rattle.arm_encoding.specs.declared.Decoded.TheVariants.{Known, Unknown}
 use Rattle.arm_encoding.specs.Encoding.{decode_of}
 use Rattle.arm_machine.specs.Step.{half_at}
 use Rattle.text_disassembly.specs.Disassembly.{after, line, bytes, size}
@@ -113,30 +111,30 @@ module _ (at first h : ℕ) (l : first < 65536) (k : h < 65536) where
   single : two_in (line at first h) ≡ false → size first h ≡ 2 → Shown at first h
   single t s = one (rw t (ap (λ (x : ℕ). x ∷ []) (first_back at first h l))) (rw s)
 
-  low_size : (d : Decoded) → first < 0xF000 → bytes first d ≡ 2
-  low_size Unknown b = refl
-  low_size (Known i) b = rw (lt-ltb first 0xF000 b)
+  low_size : (d : Option Instr) → first < 0xF000 → bytes first d ≡ 2
+  low_size None b = refl
+  low_size (Some i) b = rw (lt-ltb first 0xF000 b)
 
   low : first < 0xF000 → Shown at first h
   unfolding size
   low b = single (rw (first_back at first h l, lt-ltb first 0xF000 b)) (low_size (decode_of first h) b)
 
   -- F000 and more is BL, with F800 and more behind it
-  large : (i : Instr) → decode_of first h ≡ Known i → 0xF000 ≤ first → 0xF800 ≤ h
+  large : (i : Instr) → decode_of first h ≡ Some i → 0xF000 ≤ first → 0xF800 ≤ h
   unfolding decode_of
   large i e b =
       by_test (λ (x : Bool). 0xF800 ≤ h) (ltb h 0xF800)
       (λ y. absurd (known_not (ltb first 0xF800) (rw (le-ltb first 0xF000 b, y) at e)))
       (λ y. ltb-false h 0xF800 y)
     where
-      known_not : (x : Bool) → pick x Unknown Unknown ≡ Known i → ⊥
+      known_not : (x : Bool) → pick x None None ≡ Some i → ⊥
       known_not true e = let z : ◌≡◌ {A = ℕ} 0 1 = cc in omega arith
       known_not false e = let z : ◌≡◌ {A = ℕ} 0 1 = cc in omega arith
 
-  high : 0xF000 ≤ first → (d : Decoded) → decode_of first h ≡ d → Shown at first h
+  high : 0xF000 ≤ first → (d : Option Instr) → decode_of first h ≡ d → Shown at first h
   unfolding size
-  high b Unknown e = single (rw (first_back at first h l, le-ltb first 0xF000 b, length_line, e)) (rw e)
-  high b (Known i) e =
+  high b None e = single (rw (first_back at first h l, le-ltb first 0xF000 b, length_line, e)) (rw e)
+  high b (Some i) e =
       let n : 10 < length (line at first h) = rw (length_line, e) (simp length-append (omega arith)) in
       let back = second_back at first h i e b k in
       two (rw (first_back at first h l, le-ltb first 0xF000 b, lt-ltb 10 (length (line at first h)) n) (ap (λ (x : ℕ). first ∷ x ∷ []) back))

@@ -5,7 +5,6 @@ ghost use Rattle.std.specs.Prelude.{◌≡◌, ◌++◌};
 ghost use Rattle.text_lines.specs.Text.{written, fitted};
 ghost use Rattle.text_disassembly.specs.Disassembly as spec;
 
-use arm_encoding::Decoded;
 use text_lines::Line;
 
 // An address and a halfword.
@@ -32,8 +31,8 @@ pub fn line(at: u32, first: u16, second: u16) -> Line
 {
     let head = located(at, first);
     match arm_encoding::decode(first, second) {
-        Decoded::Unknown => text_lines::put(head, 10),
-        Decoded::Known(i) => {
+        None => text_lines::put(head, 10),
+        Some(i) => {
             let halves = whole(head, first, second);
             text_lines::put(
                 text_mnemonic::instruction(text_lines::put(halves, b' '), at, i),
@@ -48,7 +47,7 @@ pub fn size(first: u16, second: u16) -> usize
     ensures { result ≡ spec.size first second }
 {
     match arm_encoding::decode(first, second) {
-        Decoded::Unknown => 2,
-        Decoded::Known(_) => if first < 0xF000 { 2 } else { 4 },
+        None => 2,
+        Some(_) => if first < 0xF000 { 2 } else { 4 },
     }
 }

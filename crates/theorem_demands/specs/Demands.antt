@@ -1,6 +1,6 @@
 -- Demands 1, 2 and 3, with the requests 2026-12 and 2026-01 as a fourth and a fifth, from source bytes to machine calls: statements alone, over the definitions that the public calls meet by equation.
--- `translate` meets `translation`; `start`, `step` and `run` meet `start_of`, `step_of` and `run_of`; `encode` and `decode` meet `encode_of` and `decode_of`; `walk` hands back `walk_of` (`left_by_walk`).
-use Rattle.std.specs.Prelude.{◌≡◌, List, ℕ, ◌<◌, length, eqb}
+-- `translate` meets `translation`; `start`, `step` and `run` meet `start_of`, `step_of` and `run_of`; `encode`, read by `encoded`, and `decode` meet `encode_of` and `decode_of`; `walk` hands back `walk_of` (`left_by_walk`).
+use Rattle.std.specs.Prelude.{◌≡◌, List, ℕ, ◌<◌, Some, length, eqb}
 use Rattle.arm_word.specs.Choice.{pick}
 use Rattle.x_tokens.specs.TokenList.{Entry}
 use Rattle.x_grammar.specs.Grammar as grammar
@@ -14,7 +14,6 @@ use Rattle.translate_rules.specs.ImageCode.{image}
 use Rattle.translate_source.specs.Translate.{Translated, left, filled, translation}
 use Rattle.arm_encoding.specs.Encoding.{encode_of, decode_of, whole}
 use Rattle.arm_encoding.specs.declared.Instr.{Instr}
-use Rattle.arm_encoding.specs.declared.Decoded.TheVariants.{Known}
 use Rattle.arm_state.specs.declared.Machine.{Machine}
 use Rattle.arm_machine.specs.Step.{step_of}
 use Rattle.theorem_simulation.specs.Demand3.{D, N, Lent, Demand3}
@@ -91,8 +90,8 @@ pub record Demand2 : Type 0 where
   pub accepted_is_X : (source table code : List ℕ) → (translation source table code).answer.status ≡ 0 → (p : Program) × Translates source table code p
   pub X_is_accepted : (source table code : List ℕ) (p : Program) → XAs source (length table) (length code) p → Translates source table code p
   -- "Each instruction is encoded and read back as Arm's manual says": the table is that of arm_encoding; both ways round it is the same
-  pub decoded : (i : Instr) → (encode_of i).status ≡ 0 → decode_of (encode_of i).first (encode_of i).second ≡ Known i
-  pub encoded : (h s : ℕ) (i : Instr) → s < 65536 → decode_of h s ≡ Known i → encode_of i ≡ whole h s
+  pub decoded : (i : Instr) → (encode_of i).status ≡ 0 → decode_of (encode_of i).first (encode_of i).second ≡ Some i
+  pub encoded : (h s : ℕ) (i : Instr) → s < 65536 → decode_of h s ≡ Some i → encode_of i ≡ whole h s
 
 -- ── demand 3, and demand 2's ends: one claim over any list of calls; demand 4, old words in the stack don't matter; demand 5, the walker is the image's equal ──
 

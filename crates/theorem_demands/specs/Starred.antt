@@ -32,9 +32,8 @@ use Rattle.arm_machine.specs.Start.{start_refusal, start_of}
 use Rattle.arm_machine.specs.declared.Started.{Started}
 use Rattle.arm_encoding.specs.declared.Instr.{Instr}
 use Rattle.arm_encoding.specs.declared.Instr.TheVariants.{Movi, Addr, Subr, Stri, Shri, Bu, Bl}
-use Rattle.arm_encoding.specs.declared.Encoded.{Encoded}
 use Rattle.arm_encoding.specs.EncodingBytes.{encoded_bytes}
-use Rattle.arm_encoding.specs.Encoding.{encode_of, decode_of, find, table, put, put_long, swap32, narrow, widen}
+use Rattle.arm_encoding.specs.Encoding.{Encoded, encode_of, decode_of, find, table, put, put_long, swap32, narrow, widen}
 
 -- a source's bytes, translated; a source's bytes, translated and run to its end; an instruction
 pub data Case : Type 0 where

@@ -7,8 +7,7 @@ use Rattle.std.proofs.lemmas.List.Edits.{sets}
 use Rattle.std.proofs.Math.Dec.{eqb}
 use borrow.Author.Tests.{eq-eqb, ne_eqb, eqb-true, eqb-false}
 use Rattle.arm_word.specs.ChoiceLaws.{by_test}
-use Rattle.arm_encoding.specs.Encoding.{encode_of}
-use Rattle.arm_encoding.specs.declared.Encoded.{Encoded}
+use Rattle.arm_encoding.specs.Encoding.{Encoded, encode_of}
 use Rattle.arm_encoding.specs.declared.Instr.{Instr}
 use Rattle.arm_encoding.specs.EncodingBytes.{halfword_bytes, encoded_bytes}
 use Rattle.translate_rules.specs.InstructionBytes.{bytes_of, bytes, size}

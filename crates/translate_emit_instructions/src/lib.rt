@@ -6,28 +6,28 @@ ghost use Rattle.std.specs.Prelude.{[], ◌∷◌};
 ghost use Rattle.translate_rules.specs.Constant.{load_constant};
 ghost use Rattle.translate_emit_instructions.specs.Write.{Room, Wrote};
 
-use arm_encoding::Instr;
+use arm_encoding::{Halfwords, Instr};
 
 // One instruction. If its encoding is refused nothing is written.
 pub fn put(code: &mut [u8], at: usize, i: Instr) -> usize
     requires { Room code.old at (i ∷ []) }
     ensures { Wrote code.old at (i ∷ []) code.new result }
 {
-    let e = arm_encoding::encode(i);
-    let count = e.count;
-    let first = e.first;
-    let second = e.second;
-    if count == 0 {
-        return at;
+    match arm_encoding::encode(i) {
+        None => at,
+        Some(Halfwords::One(first)) => {
+            code[at] = (first % 256) as u8;
+            code[at + 1] = (first / 256) as u8;
+            at + 2
+        }
+        Some(Halfwords::Two(first, second)) => {
+            code[at] = (first % 256) as u8;
+            code[at + 1] = (first / 256) as u8;
+            code[at + 2] = (second % 256) as u8;
+            code[at + 3] = (second / 256) as u8;
+            at + 4
+        }
     }
-    code[at] = (first % 256) as u8;
-    code[at + 1] = (first / 256) as u8;
-    if count == 1 {
-        return at + 2;
-    }
-    code[at + 2] = (second % 256) as u8;
-    code[at + 3] = (second / 256) as u8;
-    at + 4
 }
 
 pub fn put_two(code: &mut [u8], at: usize, i: Instr, j: Instr) -> usize

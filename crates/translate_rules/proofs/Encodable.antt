@@ -4,9 +4,8 @@ use Rattle.std.proofs.Common.{ap, arith, lit<, lt-ltb, le-ltb, ltb-true, ltb-fal
 use Rattle.std.specs.Int.Count.{count_trailing_zeros, count_leading_zeros}
 use Rattle.arm_word.specs.Choice.{pick}
 use Rattle.arm_word.specs.ChoiceLaws.{by_test}
-use Rattle.arm_encoding.specs.Encoding.{Form, put, put_long, swap32, narrow, encode_of, MOVI, ADDI, SHLI}
+use Rattle.arm_encoding.specs.Encoding.{Encoded, Form, put, put_long, swap32, narrow, encode_of, MOVI, ADDI, SHLI}
 use Rattle.arm_encoding.specs.Fields.{put_one}
-use Rattle.arm_encoding.specs.declared.Encoded.{Encoded}
 use Rattle.arm_encoding.specs.declared.Instr.{Instr}
 use Rattle.arm_encoding.specs.declared.Instr.TheVariants.{Shli, Movi, Addi, Svc}
 use Rattle.x_program.specs.Tree as tree

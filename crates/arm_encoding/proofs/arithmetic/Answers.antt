@@ -11,11 +11,11 @@ use Rattle.arm_encoding.proofs.arithmetic.Goals as goal
 
 pub returns-in-12 : goal.returns-in-12
 unfolding table
-returns-in-12 c = rw (c.bits6to8.ensures, c.bits3to5.ensures, c.bits0to2.ensures) (sym (row_hit 3 _ (lit< tt) (omega arith) (omega arith)))
+returns-in-12 c = rw (c.field.ensures, c.field-in-12.ensures, c.low.ensures) (sym (row_hit 3 _ (lit< tt) (omega arith) (omega arith)))
 
 pub returns-in-13 : goal.returns-in-13
 unfolding table
-returns-in-13 c = rw (c.bits6to8-in-13.ensures, c.bits3to5-in-13.ensures, c.bits0to2-in-13.ensures) (sym (row_hit 4 _ (lit< tt) (omega arith) (omega arith)))
+returns-in-13 c = rw (c.field-in-13.ensures, c.field-in-13-2.ensures, c.low-in-13.ensures) (sym (row_hit 4 _ (lit< tt) (omega arith) (omega arith)))
 
 pub returns-in_default : goal.returns-in_default
 unfolding table ranges plain listed blocks_clear

@@ -10,16 +10,16 @@ use Rattle.arm_word.specs.ChoiceLaws.{by_test}
 use Rattle.arm_word.specs.RangeLaws.{plain}
 use Rattle.arm_encoding.specs.Encoding.{table, decode_of}
 use Rattle.arm_encoding.specs.EncodingTable.{NoneOf, row_hit, ranges, listed, blocks_clear, block_miss}
-use Rattle.arm_encoding.specs.declared.Decoded.TheVariants.{Unknown}
+use Rattle.std.specs.Prelude.{None}
 use Rattle.arm_encoding.proofs.decode.Goals as goal
 
 abbrev groups : List ℕ
 groups = 30 ∷ 28 ∷ 27 ∷ 26 ∷ 22 ∷ 21 ∷ 20 ∷ 19 ∷ 18 ∷ 13 ∷ 12 ∷ 11 ∷ 10 ∷ 9 ∷ 8 ∷ 7 ∷ 6 ∷ 4 ∷ 3 ∷ 2 ∷ 1 ∷ 0 ∷ []
 
-unlisted : (h k : ℕ) → NoneOf groups (h / 2048) → Unknown ≡ decode_of h k
+unlisted : (h k : ℕ) → NoneOf groups (h / 2048) → None ≡ decode_of h k
 unfolding decode_of table ranges plain listed blocks_clear
 unlisted h k =
-    by_test (λ _. NoneOf groups (h / 2048) → Unknown ≡ decode_of h k) (ltb h 0xF000)
+    by_test (λ _. NoneOf groups (h / 2048) → None ≡ decode_of h k) (ltb h 0xF000)
     (λ e.
     let b = ltb-true h 0xF000 e in
     let l : 0 ≤ h / 2048 = omega arith in
@@ -34,9 +34,9 @@ pub returns-in-0 : goal.returns-in-0
 unfolding decode_of table
 returns-in-0 c =
     rw (
-      c.bits6to10.ensures,
-      c.bits3to5.ensures,
-      c.bits0to2.ensures,
+      c.field.ensures,
+      c.field-in-0.ensures,
+      c.low.ensures,
       lt-ltb c.args.h 0xF000
           (omega arith),
     ) (sym (row_hit 0 _ (lit< tt) (omega arith) (omega arith)))
@@ -44,12 +44,11 @@ returns-in-0 c =
 pub returns-in-1 : goal.returns-in-1
 unfolding decode_of table
 returns-in-1 c =
-    let bits6to102 = c.bits6to10-in-1 in
     rw (
       c.swap32.ensures,
-      bits6to102.ensures,
-      c.bits3to5-in-1.ensures,
-      c.bits0to2-in-1.ensures,
+      c.field-in-1.ensures,
+      c.field-in-1-2.ensures,
+      c.low-in-1.ensures,
       lt-ltb c.args.h 0xF000
           (omega arith),
     ) (sym (row_hit 1 _ (lit< tt) (omega arith) (omega arith)))
@@ -57,12 +56,11 @@ returns-in-1 c =
 pub returns-in-2 : goal.returns-in-2
 unfolding decode_of table
 returns-in-2 c =
-    let bits6to103 = c.bits6to10-in-2 in
     rw (
       c.swap32-in-2.ensures,
-      bits6to103.ensures,
-      c.bits3to5-in-2.ensures,
-      c.bits0to2-in-2.ensures,
+      c.field-in-2.ensures,
+      c.field-in-2-2.ensures,
+      c.low-in-2.ensures,
       lt-ltb c.args.h 0xF000
           (omega arith),
     ) (sym (row_hit 2 _ (lit< tt) (omega arith) (omega arith)))
@@ -74,19 +72,19 @@ returns-in-3 c = c.arithmetic.ensures ∙ rw (lt-ltb c.args.h 0xF000 (omega arit
 pub returns-in-4 : goal.returns-in-4
 unfolding decode_of table
 returns-in-4 c =
-    rw (c.bits8to10.ensures, c.bits0to7.ensures, lt-ltb c.args.h 0xF000 (omega arith))
+    rw (c.field-in-4.ensures, c.low-in-4.ensures, lt-ltb c.args.h 0xF000 (omega arith))
     (sym (row_hit 5 _ (lit< tt) (omega arith) (omega arith)))
 
 pub returns-in-6 : goal.returns-in-6
 unfolding decode_of table
 returns-in-6 c =
-    rw (c.bits8to10-in-6.ensures, c.bits0to7-in-6.ensures, lt-ltb c.args.h 0xF000 (omega arith))
+    rw (c.field-in-6.ensures, c.low-in-6.ensures, lt-ltb c.args.h 0xF000 (omega arith))
     (sym (row_hit 6 _ (lit< tt) (omega arith) (omega arith)))
 
 pub returns-in-7 : goal.returns-in-7
 unfolding decode_of table
 returns-in-7 c =
-    rw (c.bits8to10-in-7.ensures, c.bits0to7-in-7.ensures, lt-ltb c.args.h 0xF000 (omega arith))
+    rw (c.field-in-7.ensures, c.low-in-7.ensures, lt-ltb c.args.h 0xF000 (omega arith))
     (sym (row_hit 7 _ (lit< tt) (omega arith) (omega arith)))
 
 pub returns-in-8 : goal.returns-in-8
@@ -96,7 +94,7 @@ returns-in-8 c = c.logical.ensures ∙ rw (lt-ltb c.args.h 0xF000 (omega arith))
 pub returns-in-9 : goal.returns-in-9
 unfolding decode_of table
 returns-in-9 c =
-    rw (c.bits8to10-in-9.ensures, c.bits0to7-in-9.ensures, lt-ltb c.args.h 0xF000 (omega arith))
+    rw (c.field-in-9.ensures, c.low-in-9.ensures, lt-ltb c.args.h 0xF000 (omega arith))
     (sym (row_hit 16 _ (lit< tt) (omega arith) (omega arith)))
 
 pub returns-in-10 : goal.returns-in-10
@@ -111,9 +109,9 @@ pub returns-in-12 : goal.returns-in-12
 unfolding decode_of table
 returns-in-12 c =
     rw (
-      c.bits6to10-in-12.ensures,
-      c.bits3to5-in-12.ensures,
-      c.bits0to2-in-12.ensures,
+      c.field-in-12.ensures,
+      c.field-in-12-2.ensures,
+      c.low-in-12.ensures,
       lt-ltb c.args.h 0xF000
           (omega arith),
     ) (sym (row_hit 19 _ (lit< tt) (omega arith) (omega arith)))
@@ -122,9 +120,9 @@ pub returns-in-13 : goal.returns-in-13
 unfolding decode_of table
 returns-in-13 c =
     rw (
-      c.bits6to10-in-13.ensures,
-      c.bits3to5-in-13.ensures,
-      c.bits0to2-in-13.ensures,
+      c.field-in-13.ensures,
+      c.field-in-13-2.ensures,
+      c.low-in-13.ensures,
       lt-ltb c.args.h 0xF000
           (omega arith),
     ) (sym (row_hit 20 _ (lit< tt) (omega arith) (omega arith)))
@@ -132,25 +130,25 @@ returns-in-13 c =
 pub returns-in-18 : goal.returns-in-18
 unfolding decode_of table
 returns-in-18 c =
-    rw (c.bits8to10-in-18.ensures, c.bits0to7-in-18.ensures, lt-ltb c.args.h 0xF000 (omega arith))
+    rw (c.field-in-18.ensures, c.low-in-18.ensures, lt-ltb c.args.h 0xF000 (omega arith))
     (sym (row_hit 21 _ (lit< tt) (omega arith) (omega arith)))
 
 pub returns-in-19 : goal.returns-in-19
 unfolding decode_of table
 returns-in-19 c =
-    rw (c.bits8to10-in-19.ensures, c.bits0to7-in-19.ensures, lt-ltb c.args.h 0xF000 (omega arith))
+    rw (c.field-in-19.ensures, c.low-in-19.ensures, lt-ltb c.args.h 0xF000 (omega arith))
     (sym (row_hit 22 _ (lit< tt) (omega arith) (omega arith)))
 
 pub returns-in-20 : goal.returns-in-20
 unfolding decode_of table
 returns-in-20 c =
-    rw (c.bits8to10-in-20.ensures, c.bits0to7-in-20.ensures, lt-ltb c.args.h 0xF000 (omega arith))
+    rw (c.field-in-20.ensures, c.low-in-20.ensures, lt-ltb c.args.h 0xF000 (omega arith))
     (sym (row_hit 23 _ (lit< tt) (omega arith) (omega arith)))
 
 pub returns-in-21 : goal.returns-in-21
 unfolding decode_of table
 returns-in-21 c =
-    rw (c.bits8to10-in-21.ensures, c.bits0to7-in-21.ensures, lt-ltb c.args.h 0xF000 (omega arith))
+    rw (c.field-in-21.ensures, c.low-in-21.ensures, lt-ltb c.args.h 0xF000 (omega arith))
     (sym (row_hit 24 _ (lit< tt) (omega arith) (omega arith)))
 
 pub returns-in-22 : goal.returns-in-22

@@ -1,9 +1,8 @@
 -- `arm_encoding::encode` meets its contract: each arm is the clause of the definition at the constructor that the match found.
 -- Rests on the definitions that its contract cites; assumes nothing.
-use Rattle.arm_encoding.specs.Encoding.{encode_of}
+use Rattle.arm_encoding.specs.Encoding.{Encoded, encode_of}
 use mathlib.Core.Path.{◌≡◌, sym, ap, ◌∙◌}
 use Rattle.arm_encoding.specs.declared.Instr.{Instr}
-use Rattle.arm_encoding.specs.declared.Encoded.{Encoded}
 use Rattle.arm_encoding.proofs.encode.Goals as goal
 
 given : {i j : Instr} {r : Encoded} → r ≡ encode_of j → i ≡ j → r ≡ encode_of i

@@ -2,12 +2,11 @@
 -- Rests on the definitions that its contract cites; assumes nothing.
 use Rattle.arm_encoding.specs.Encoding.{put_long}
 use borrow.Author.Tests.{lt-ltb, le-ltb}
-use mathlib.Core.Path.{◌∙◌}
 use Rattle.arm_encoding.proofs.long.Goals as goal
 
 pub returns-then-f-ge4194304 : goal.returns-then-f-ge4194304
 unfolding put_long
-returns-then-f-ge4194304 c = c.refused.ensures ∙ rw (← c.narrow-f.ensures, le-ltb _ _ c.if-f-ge4194304.true)
+returns-then-f-ge4194304 c = rw (← c.narrow-f.ensures, le-ltb _ _ c.if-f-ge4194304.true)
 
 pub returns : goal.returns
 unfolding put_long

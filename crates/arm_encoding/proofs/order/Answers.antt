@@ -19,7 +19,7 @@ returns-in-219 c = rw c.near-in-219.ensures (sym (row_hit 30 _ (lit< tt) (omega 
 
 pub returns-in-223 : goal.returns-in-223
 unfolding table
-returns-in-223 c = rw c.bits0to7.ensures (sym (row_hit 31 _ (lit< tt) (omega arith) (omega arith)))
+returns-in-223 c = rw c.low.ensures (sym (row_hit 31 _ (lit< tt) (omega arith) (omega arith)))
 
 pub returns-in_default : goal.returns-in_default
 unfolding table ranges plain listed blocks_clear

@@ -11,11 +11,11 @@ use Rattle.arm_encoding.proofs.pointer.Goals as goal
 
 pub returns-in-352 : goal.returns-in-352
 unfolding table
-returns-in-352 c = rw c.bits0to6.ensures (sym (row_hit 25 _ (lit< tt) (omega arith) (omega arith)))
+returns-in-352 c = rw c.low.ensures (sym (row_hit 25 _ (lit< tt) (omega arith) (omega arith)))
 
 pub returns-in-353 : goal.returns-in-353
 unfolding table
-returns-in-353 c = rw c.bits0to6-in-353.ensures (sym (row_hit 26 _ (lit< tt) (omega arith) (omega arith)))
+returns-in-353 c = rw c.low-in-353.ensures (sym (row_hit 26 _ (lit< tt) (omega arith) (omega arith)))
 
 pub returns-in_default : goal.returns-in_default
 unfolding table ranges plain listed blocks_clear

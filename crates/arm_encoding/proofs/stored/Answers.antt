@@ -11,7 +11,7 @@ use Rattle.arm_encoding.proofs.stored.Goals as goal
 
 pub returns-in-40 : goal.returns-in-40
 unfolding table
-returns-in-40 c = rw (c.bits6to8.ensures, c.bits3to5.ensures, c.bits0to2.ensures) (sym (row_hit 17 _ (lit< tt) (omega arith) (omega arith)))
+returns-in-40 c = rw (c.field.ensures, c.field-in-40.ensures, c.low.ensures) (sym (row_hit 17 _ (lit< tt) (omega arith) (omega arith)))
 
 pub returns-in_default : goal.returns-in_default
 unfolding table ranges plain listed blocks_clear

@@ -10,6 +10,3 @@ use Rattle.arm_machine.proofs.run.Given as goal
 abbrev pub invariant-loop-k : goal.invariant-loop-k
 invariant-loop-k l =
     (run_from l.limit 0 l.code l.initial.memory (whole l.initial.core) ≡ run_from (l.limit - l.k) l.k l.code l.memory (whole l.core)) × ((l.k ≤ l.limit) × (length l.memory ≡ length l.initial.memory))
-
-abbrev pub decreases-loop-k : goal.decreases-loop-k
-decreases-loop-k l = l.limit - l.k

@@ -1,13 +1,15 @@
--- `arm_machine::start` meets its contract: the answers are the definition's, test by test and call by call.
+-- `arm_machine::start` meets its contract: by whether `check_start` refuses.
 -- Rests on the definitions that its contract cites; assumes nothing.
-use borrow.Author.Tests.{eq-eqb, ne_eqb}
+use mathlib.Core.Path.{sym, ap, ◌∙◌}
+use Rattle.arm_machine.specs.Refusals.{answered}
 use Rattle.arm_machine.specs.Start.{start_of}
+use Rattle.arm_machine.proofs.NumberLaws.{refusal_not_0}
 use Rattle.arm_machine.proofs.start.Goals as goal
 
-pub returns-then-refused-ne0 : goal.returns-then-refused-ne0
+pub returns-in-Ok : goal.returns-in-Ok
 unfolding start_of
-returns-then-refused-ne0 c = rw (← c.start_refusal-refused.ensures, ne_eqb _ 0 c.if-refused-ne0.true, c.zeros.ensures)
+returns-in-Ok c = rw (sym c.check_start.ensures ∙ ap answered c.in-Ok.is, c.fresh.ensures)
 
-pub returns : goal.returns
+pub returns-in-Err : goal.returns-in-Err
 unfolding start_of
-returns c = rw (← c.start_refusal-refused.ensures, eq-eqb _ 0 c.if-refused-ne0.false, c.fresh.ensures)
+returns-in-Err c = rw (sym c.check_start.ensures ∙ ap answered c.in-Err.is, refusal_not_0 _, c.number.ensures, c.zeros.ensures)

@@ -2,6 +2,8 @@
 -- Rests on the definitions that its contract cites; assumes nothing.
 use borrow.Author.Tests.{le-leb, lt-leb}
 use mathlib.Core.Path.{sym, ap, ◌∙◌}
+use native.Mathlib.Omega.{arith}
+use Rattle.std.specs.Prelude.{Some}
 use Rattle.arm_state.specs.Lookup.{word_at, data_word}
 use Rattle.arm_state.specs.Lookup.{slot_lt}
 use borrow.Author.Rules.{rules}
@@ -9,9 +11,7 @@ use Rattle.arm_state.proofs.word_at.Goals as goal
 
 pub returns-then-i-code : goal.returns-then-i-code
 unfolding word_at
-returns-then-i-code c =
-    let if1 = c.if-i-code in
-    rw (c.byte-then-i-code-3.ensures.0, c.byte-then-i-code-2.ensures.0, c.byte-then-i-code.ensures.0, c.byte.ensures.0, le-leb _ _ if1.true)
+returns-then-i-code c = rw (le-leb _ _ c.if-i-code.true) (ap Some (c.from_le_bytes.ensures ∙ omega arith))
 
 pub returns-in_default : goal.returns-in_default
 unfolding word_at
@@ -20,14 +20,14 @@ returns-in_default c =
     rw (lt-leb _ _ c.if-i-code.false) (ap (data_word x.memory.now) (sym c.in_default.is ∙ c.slot_of.ensures))
 
 pub offset_bounds-memory-j : goal.offset_bounds-memory-j
-offset_bounds-memory-j c = let l = slot_lt _ _ _ (sym c.slot_of.ensures ∙ c.in-At.is) in search rules
+offset_bounds-memory-j c = let l = slot_lt _ _ _ (sym c.slot_of.ensures ∙ c.in-Some.is) in search rules
 
 pub bounds-memory-j : goal.bounds-memory-j
-bounds-memory-j c = slot_lt _ _ _ (sym c.slot_of.ensures ∙ c.in-At.is)
+bounds-memory-j c = slot_lt _ _ _ (sym c.slot_of.ensures ∙ c.in-Some.is)
 
 pub returns : goal.returns
 unfolding word_at
 returns c =
     let slot_of = c.slot_of in let if1 = c.if-i-code in
     let x = c.args in
-    rw (lt-leb _ _ if1.false) (ap (data_word x.memory.now) (sym c.in-At.is ∙ slot_of.ensures))
+    rw (lt-leb _ _ if1.false) (ap (data_word x.memory.now) (sym c.in-Some.is ∙ slot_of.ensures))

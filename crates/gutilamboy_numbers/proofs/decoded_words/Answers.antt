@@ -10,4 +10,4 @@ returns-in_default c = c.row.ensures ∙ sym (ap decoded_words c.in_default.is)
 
 pub returns : goal.returns
 unfolding decoded_words
-returns c = c.instruction_words.ensures ∙ sym (ap decoded_words c.in-Known.is)
+returns c = c.instruction_words.ensures ∙ sym (ap decoded_words c.in-Some.is)

@@ -1,7 +1,7 @@
 -- `gutilamboy_numbers::instruction` meets its contract: an arm's key is the place in the list of instructions; what no key matched is past its end.
 -- Rests on the definitions that its contract cites; assumes nothing.
 use Rattle.gutilamboy_numbers.specs.Numbers.{instruction_of, instructions}
-use Rattle.arm_encoding.specs.declared.Decoded.TheVariants.{Unknown}
+use Rattle.std.specs.Prelude.{None}
 use mathlib.Core.Path.{◌≡◌, sym}
 use lib.ListN.{get_or-eq_default}
 use Prim.Native.Nat.{ℕ, zero, suc, ◌≤◌}
@@ -154,4 +154,4 @@ returns-in-33 c = rw c.in-33.is
 
 pub returns-in_default : goal.returns-in_default
 unfolding instruction_of instructions
-returns-in_default c = let x = c.args in sym (get_or-eq_default (instructions x.a x.b x.c x.k) Unknown (past 34 x.op c.in_default.in_default-own.rest))
+returns-in_default c = let x = c.args in sym (get_or-eq_default (instructions x.a x.b x.c x.k) None (past 34 x.op c.in_default.in_default-own.rest))

@@ -1,32 +1,59 @@
--- `translate_emit_instructions::put` meets its contract: by the encoding's count nothing, one halfword or two were stored (`Single`).
+-- `translate_emit_instructions::put` meets its contract: by the encoding nothing, one halfword or two were stored (`Single`).
 -- Assumes nothing.
 use native.Mathlib.Omega.{arith}
 use native.Mathlib.Numerals.{towards_suc}
 use lib.ListN.{length-set}
+use mathlib.Core.Path.{◌≡◌, refl, sym, ap, ◌∙◌}
+use Rattle.std.specs.Prelude.{Option, Some}
+use Rattle.arm_encoding.specs.Encoding.{Encoded, refused, one, two, encoded}
+use Rattle.arm_encoding.specs.declared.Halfwords.{Halfwords}
 use Rattle.translate_emit_instructions.specs.Single.{room_some, room_two, wrote_none, wrote_one, wrote_two}
 use Rattle.translate_emit_instructions.proofs.put.Goals as goal
 
-pub returns-then-count-eq0 : goal.returns-then-count-eq0
-returns-then-count-eq0 c = wrote_none c.args.i c.encode-e.result c.encode-e.ensures c.if-count-eq0.true
+-- an encoding whose halfwords are known
+known : {r : Option Halfwords} {h g : Halfwords} {e : Encoded} → r ≡ Some h → h ≡ g → encoded r ≡ e → encoded (Some g) ≡ e
+known p q z = sym (ap encoded (p ∙ ap Some q)) ∙ z
+
+pub returns-in-None : goal.returns-in-None
+returns-in-None c = wrote_none c.args.i refused (sym (ap encoded c.in-None.is) ∙ c.encode.ensures) refl
 
 pub bounds-code-at : goal.bounds-code-at
-bounds-code-at c = omega (arith, room_some c.args.i c.encode-e.result c.encode-e.ensures c.if-count-eq0.false c.requires)
+bounds-code-at c =
+    let o = c.in-Some-One in
+    omega (arith, room_some c.args.i (one o.first) (known o.is o.field-0-is c.encode.ensures) (λ z. omega (arith, z)) c.requires)
 
-pub bounds-code-at-2 : goal.bounds-code-at-2
-bounds-code-at-2 c = simp length-set (omega (arith, room_some c.args.i c.encode-e.result c.encode-e.ensures c.if-count-eq0.false c.requires))
+pub bounds-code-at-in-Some-One : goal.bounds-code-at-in-Some-One
+bounds-code-at-in-Some-One c =
+    let o = c.in-Some-One in
+    simp length-set (omega (arith, room_some c.args.i (one o.first) (known o.is o.field-0-is c.encode.ensures) (λ z. omega (arith, z)) c.requires))
 
-pub returns-then-count-eq1 : goal.returns-then-count-eq1
-returns-then-count-eq1 c = wrote_one c.args.i c.encode-e.result c.encode-e.ensures c.if-count-eq1.true (simp towards_suc)
+pub returns-in-Some-One : goal.returns-in-Some-One
+returns-in-Some-One c =
+    let o = c.in-Some-One in
+    wrote_one c.args.i (one o.first) (known o.is o.field-0-is c.encode.ensures) refl (simp towards_suc)
 
-pub bounds-code-at-3 : goal.bounds-code-at-3
-bounds-code-at-3 c =
-    simp length-set
-    (omega (arith, room_two c.args.i c.encode-e.result c.encode-e.ensures c.if-count-eq0.false c.if-count-eq1.false c.requires))
+pub bounds-code-at-in-Some-Two : goal.bounds-code-at-in-Some-Two
+bounds-code-at-in-Some-Two c =
+    let t = c.in-Some-Two in
+    omega (arith, room_two c.args.i (two t.first t.second) (known t.is t.field-0-is c.encode.ensures) (λ z. omega (arith, z)) (λ z. omega (arith, z)) c.requires)
 
-pub bounds-code-at-4 : goal.bounds-code-at-4
-bounds-code-at-4 c =
-    simp length-set
-    (omega (arith, room_two c.args.i c.encode-e.result c.encode-e.ensures c.if-count-eq0.false c.if-count-eq1.false c.requires))
+pub bounds-code-at-in-Some-Two-2 : goal.bounds-code-at-in-Some-Two-2
+bounds-code-at-in-Some-Two-2 c =
+    let t = c.in-Some-Two in
+    simp length-set (omega (arith, room_two c.args.i (two t.first t.second) (known t.is t.field-0-is c.encode.ensures) (λ z. omega (arith, z)) (λ z. omega (arith, z)) c.requires))
 
-pub returns : goal.returns
-returns c = wrote_two c.args.i c.encode-e.result c.encode-e.ensures c.if-count-eq0.false c.if-count-eq1.false (simp towards_suc)
+pub bounds-code-at-in-Some-Two-3 : goal.bounds-code-at-in-Some-Two-3
+bounds-code-at-in-Some-Two-3 c =
+    let t = c.in-Some-Two in
+    simp length-set (omega (arith, room_two c.args.i (two t.first t.second) (known t.is t.field-0-is c.encode.ensures) (λ z. omega (arith, z)) (λ z. omega (arith, z)) c.requires))
+
+pub bounds-code-at-in-Some-Two-4 : goal.bounds-code-at-in-Some-Two-4
+bounds-code-at-in-Some-Two-4 c =
+    let t = c.in-Some-Two in
+    simp length-set (omega (arith, room_two c.args.i (two t.first t.second) (known t.is t.field-0-is c.encode.ensures) (λ z. omega (arith, z)) (λ z. omega (arith, z)) c.requires))
+
+pub returns-in-Some-Two : goal.returns-in-Some-Two
+returns-in-Some-Two c =
+    let t = c.in-Some-Two in
+    wrote_two c.args.i (two t.first t.second) (known t.is t.field-0-is c.encode.ensures)
+    (λ z. omega (arith, z)) (λ z. omega (arith, z)) (simp towards_suc)

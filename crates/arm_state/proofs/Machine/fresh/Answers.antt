@@ -1,11 +1,12 @@
 -- `arm_state::Machine::fresh` meets its contract: the bytes of the needed words are reduced first, which the wrapped sum doesn't see.
 -- Rests on the definitions that its contract cites; assumes nothing.
-use mathlib.Core.Path.{ap, ◌∙◌}
+use mathlib.Core.Path.{◌≡◌, ap, ◌∙◌}
 use mathlib.Core.List.{[], ◌∷◌}
 use Prim.Native.Nat.{ℕ}
 use native.Mathlib.Omega.{arith}
 use Rattle.arm_state.specs.State.{base, no_flags, fresh_of}
 use Rattle.arm_state.specs.declared.Machine.{Machine}
+use borrow.Author.Rules.{rules}
 use Rattle.arm_state.proofs.Machine.fresh.Goals as goal
 
 abbrev with_sp : ℕ → Machine
@@ -13,4 +14,6 @@ with_sp sp = record { regs = 0 ∷ 0 ∷ 0 ∷ 0 ∷ 0 ∷ 0 ∷ 0 ∷ base ∷ 
 
 pub returns : goal.returns
 unfolding fresh_of
-returns c = rw c.no_flags.ensures (ap with_sp (c.add.ensures ∙ (let e = c.needed.ensures in omega arith)))
+returns c =
+    let d : c.default.result ≡ no_flags = search rules in
+    rw d (ap with_sp (c.add.ensures ∙ (let e = c.needed.ensures in omega arith)))

@@ -1,8 +1,8 @@
--- `arm_machine::refusal` meets its contract: the answers are the definition's, test by test and call by call.
+-- `arm_machine::check_lengths` meets its contract: the answers are the definition's, test by test and call by call.
 -- Rests on the definitions that its contract cites; assumes nothing.
 use borrow.Author.Tests.{lt-ltb, le-ltb}
 use Rattle.arm_machine.specs.Step.{refusal_of}
-use Rattle.arm_machine.proofs.refusal.Goals as goal
+use Rattle.arm_machine.proofs.check_lengths.Goals as goal
 
 pub returns-then-code-gt-CODE_LIMIT : goal.returns-then-code-gt-CODE_LIMIT
 unfolding refusal_of

@@ -1,0 +1,2 @@
+-- Laws that rest on the definitions of specs/.
+pub mod NumberLaws
