@@ -5,7 +5,7 @@ ghost use Rattle.std.specs.Prelude.{◌≡◌, ◌+◌, ◌*◌, ◌/◌, ◌%�
 ghost use Rattle.arm_encoding.specs.Encoding as spec;
 ghost use Rattle.arm_encoding.specs.Encoding.{form, encode_of, decode_of, find, table};
 
-#[derive(Drop)]
+#[derive(Clone, Copy)]
 pub enum Instr {
     Shli(u8, u8, u8),
     Shri(u8, u8, u8),

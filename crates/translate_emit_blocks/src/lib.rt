@@ -9,7 +9,7 @@ ghost use Rattle.translate_emit_instructions.specs.Write.{Room, Wrote};
 ghost use Rattle.translate_emit_blocks.specs.Jumps.{Ahead};
 
 use arm_encoding::Instr;
-use translate_emit_instructions::{constant, put, put_four, put_three, put_two};
+use translate_emit_instructions::{constant, put, put_all};
 
 // A constant goes on the stack.
 pub fn push_constant(code: &mut [u8], at: usize, w: u32) -> usize
@@ -28,7 +28,7 @@ pub fn push_variable(code: &mut [u8], at: usize, o: u32) -> usize
 {
     let a1 = put(code, at, Instr::Decsp(1));
     let a2 = constant(code, a1, 1, 4 * o);
-    put_two(code, a2, Instr::Ldr(1, 7, 0), Instr::Strspi(0, 0))
+    put_all(code, a2, &[Instr::Ldr(1, 7, 0), Instr::Strspi(0, 0)])
 }
 
 // The subscript on the stack is below the length n, or SVC 2.
@@ -36,22 +36,26 @@ pub fn check_subscript(code: &mut [u8], at: usize, n: u32) -> usize
     requires { Room code.old at (check_subscript n) }
     ensures { Wrote code.old at (check_subscript n) code.new result }
 {
-    let a1 = put_four(
+    let a1 = put_all(
         code,
         at,
-        Instr::Ldrspi(0, 0),
-        Instr::Shri(14, 0, 2),
-        Instr::Beq(0),
-        Instr::Svc(2),
+        &[
+            Instr::Ldrspi(0, 0),
+            Instr::Shri(14, 0, 2),
+            Instr::Beq(0),
+            Instr::Svc(2),
+        ],
     );
     let a2 = constant(code, a1, 1, n);
-    put_four(
+    put_all(
         code,
         a2,
-        Instr::Subr(1, 0, 2),
-        Instr::Shri(31, 2, 2),
-        Instr::Bne(0),
-        Instr::Svc(2),
+        &[
+            Instr::Subr(1, 0, 2),
+            Instr::Shri(31, 2, 2),
+            Instr::Bne(0),
+            Instr::Svc(2),
+        ],
     )
 }
 
@@ -60,14 +64,16 @@ pub fn load_element(code: &mut [u8], at: usize, o: u32) -> usize
     requires { (o ≤ 8192) × Room code.old at (load_element o) }
     ensures { Wrote code.old at (load_element o) code.new result }
 {
-    let a1 = put_two(code, at, Instr::Ldrspi(0, 0), Instr::Shli(2, 0, 0));
+    let a1 = put_all(code, at, &[Instr::Ldrspi(0, 0), Instr::Shli(2, 0, 0)]);
     let a2 = constant(code, a1, 1, 4 * o);
-    put_three(
+    put_all(
         code,
         a2,
-        Instr::Addr(1, 0, 0),
-        Instr::Ldr(0, 7, 0),
-        Instr::Strspi(0, 0),
+        &[
+            Instr::Addr(1, 0, 0),
+            Instr::Ldr(0, 7, 0),
+            Instr::Strspi(0, 0),
+        ],
     )
 }
 
@@ -76,7 +82,7 @@ pub fn assign_variable(code: &mut [u8], at: usize, o: u32) -> usize
     requires { (o ≤ 8192) × Room code.old at (assign_variable o) }
     ensures { Wrote code.old at (assign_variable o) code.new result }
 {
-    let a1 = put_two(code, at, Instr::Ldrspi(0, 0), Instr::Incsp(1));
+    let a1 = put_all(code, at, &[Instr::Ldrspi(0, 0), Instr::Incsp(1)]);
     let a2 = constant(code, a1, 1, 4 * o);
     put(code, a2, Instr::Str(1, 7, 0))
 }
@@ -86,16 +92,18 @@ pub fn store_element(code: &mut [u8], at: usize, o: u32) -> usize
     requires { (o ≤ 8192) × Room code.old at (store_element o) }
     ensures { Wrote code.old at (store_element o) code.new result }
 {
-    let a1 = put_four(
+    let a1 = put_all(
         code,
         at,
-        Instr::Ldrspi(0, 0),
-        Instr::Ldrspi(1, 1),
-        Instr::Incsp(2),
-        Instr::Shli(2, 1, 1),
+        &[
+            Instr::Ldrspi(0, 0),
+            Instr::Ldrspi(1, 1),
+            Instr::Incsp(2),
+            Instr::Shli(2, 1, 1),
+        ],
     );
     let a2 = constant(code, a1, 2, 4 * o);
-    put_two(code, a2, Instr::Addr(2, 1, 1), Instr::Str(1, 7, 0))
+    put_all(code, a2, &[Instr::Addr(2, 1, 1), Instr::Str(1, 7, 0)])
 }
 
 // The condition comes off the stack; if it holds the jump that follows is stepped over.
@@ -103,13 +111,15 @@ pub fn take_condition(code: &mut [u8], at: usize) -> usize
     requires { Room code.old at take_condition }
     ensures { Wrote code.old at take_condition code.new result }
 {
-    put_four(
+    put_all(
         code,
         at,
-        Instr::Ldrspi(0, 0),
-        Instr::Incsp(1),
-        Instr::Addi(0, 0),
-        Instr::Bne(1),
+        &[
+            Instr::Ldrspi(0, 0),
+            Instr::Incsp(1),
+            Instr::Addi(0, 0),
+            Instr::Bne(1),
+        ],
     )
 }
 

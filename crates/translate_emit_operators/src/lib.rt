@@ -9,7 +9,7 @@ ghost use Rattle.x_program.specs.Table.{monadic_of, diadic_of};
 ghost use Rattle.translate_emit_instructions.specs.Write.{Room, Wrote};
 
 use arm_encoding::Instr;
-use translate_emit_instructions::{put, put_four, put_three};
+use translate_emit_instructions::{put, put_all};
 use x_program::operator;
 
 // The word on the stack gives way to the result of the monadic operator of number o.
@@ -18,20 +18,16 @@ pub fn monadic(code: &mut [u8], at: usize, o: u32) -> usize
     ensures { Wrote code.old at (work_monadic_code (monadic_of o)) code.new result }
 {
     if o == operator::NEGATE {
-        return put_three(
+        return put_all(
             code,
             at,
-            Instr::Ldrspi(0, 0),
-            Instr::Negr(0, 0),
-            Instr::Strspi(0, 0),
+            &[Instr::Ldrspi(0, 0), Instr::Negr(0, 0), Instr::Strspi(0, 0)],
         );
     }
-    put_three(
+    put_all(
         code,
         at,
-        Instr::Ldrspi(0, 0),
-        Instr::Mvnr(0, 0),
-        Instr::Strspi(0, 0),
+        &[Instr::Ldrspi(0, 0), Instr::Mvnr(0, 0), Instr::Strspi(0, 0)],
     )
 }
 
@@ -40,20 +36,24 @@ fn less_than(code: &mut [u8], at: usize, i: u8, j: u8) -> usize
     requires { Room code.old at (less_than i j) }
     ensures { Wrote code.old at (less_than i j) code.new result }
 {
-    let next = put_four(
+    let next = put_all(
         code,
         at,
-        Instr::Shri(31, i, 2),
-        Instr::Shri(31, j, 3),
-        Instr::Subr(3, 2, 3),
-        Instr::Bne(1),
+        &[
+            Instr::Shri(31, i, 2),
+            Instr::Shri(31, j, 3),
+            Instr::Subr(3, 2, 3),
+            Instr::Bne(1),
+        ],
     );
-    put_three(
+    put_all(
         code,
         next,
-        Instr::Subr(j, i, 0),
-        Instr::Shri(31, 0, 2),
-        Instr::Negr(2, 0),
+        &[
+            Instr::Subr(j, i, 0),
+            Instr::Shri(31, 0, 2),
+            Instr::Negr(2, 0),
+        ],
     )
 }
 
@@ -62,13 +62,15 @@ fn far_shift(code: &mut [u8], at: usize) -> usize
     requires { Room code.old at far_shift }
     ensures { Wrote code.old at far_shift code.new result }
 {
-    put_four(
+    put_all(
         code,
         at,
-        Instr::Shri(5, 1, 2),
-        Instr::Beq(1),
-        Instr::Movi(0, 0),
-        Instr::Movi(1, 0),
+        &[
+            Instr::Shri(5, 1, 2),
+            Instr::Beq(1),
+            Instr::Movi(0, 0),
+            Instr::Movi(1, 0),
+        ],
     )
 }
 
@@ -77,13 +79,10 @@ fn equality(code: &mut [u8], at: usize, last: Instr) -> usize
     requires { Room code.old at (Subr 1 0 0 ∷ Beq 0 ∷ Movi 0 1 ∷ last ∷ []) }
     ensures { Wrote code.old at (Subr 1 0 0 ∷ Beq 0 ∷ Movi 0 1 ∷ last ∷ []) code.new result }
 {
-    put_four(
+    put_all(
         code,
         at,
-        Instr::Subr(1, 0, 0),
-        Instr::Beq(0),
-        Instr::Movi(0, 1),
-        last,
+        &[Instr::Subr(1, 0, 0), Instr::Beq(0), Instr::Movi(0, 1), last],
     )
 }
 
@@ -127,12 +126,10 @@ pub fn diadic(code: &mut [u8], at: usize, o: u32) -> usize
     requires { Room code.old at (work_diadic_code (diadic_of o)) }
     ensures { Wrote code.old at (work_diadic_code (diadic_of o)) code.new result }
 {
-    let a1 = put_three(
+    let a1 = put_all(
         code,
         at,
-        Instr::Ldrspi(1, 0),
-        Instr::Incsp(1),
-        Instr::Ldrspi(0, 0),
+        &[Instr::Ldrspi(1, 0), Instr::Incsp(1), Instr::Ldrspi(0, 0)],
     );
     let a2 = diadic_instructions(code, a1, o);
     put(code, a2, Instr::Strspi(0, 0))

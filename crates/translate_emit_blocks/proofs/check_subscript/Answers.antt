@@ -4,23 +4,23 @@ use Rattle.translate_emit_instructions.specs.Write.{first, rest, then}
 use Rattle.translate_rules.specs.Blocks.{check_subscript}
 use Rattle.translate_emit_blocks.proofs.check_subscript.Goals as goal
 
-pub put_four-a1-requires : goal.put_four-a1-requires
+pub put_all-a1-requires : goal.put_all-a1-requires
 unfolding check_subscript
-put_four-a1-requires c = first _ c.requires
+put_all-a1-requires c = first _ c.requires
 
 pub constant-a2-requires : goal.constant-a2-requires
 unfolding check_subscript
-constant-a2-requires c = first _ (rest c.put_four-a1.ensures c.requires)
+constant-a2-requires c = first _ (rest c.put_all-a1.ensures c.requires)
 
-pub put_four-requires : goal.put_four-requires
+pub put_all-requires : goal.put_all-requires
 unfolding check_subscript
-put_four-requires c =
-    let put_four = c.put_four-a1 in
-    (rest c.constant-a2.ensures (rest put_four.ensures c.requires))
+put_all-requires c =
+    let put_all = c.put_all-a1 in
+    (rest c.constant-a2.ensures (rest put_all.ensures c.requires))
 
 pub returns : goal.returns
 unfolding check_subscript
 returns c =
     let constant = c.constant-a2 in
-    let put_four = c.put_four-a1 in
-    then put_four.ensures (then constant.ensures c.put_four.ensures)
+    let put_all = c.put_all-a1 in
+    then put_all.ensures (then constant.ensures c.put_all.ensures)

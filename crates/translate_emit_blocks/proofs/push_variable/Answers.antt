@@ -12,9 +12,9 @@ pub constant-a2-requires : goal.constant-a2-requires
 unfolding push_variable
 constant-a2-requires c = first _ (rest c.put-a1.ensures c.requires.1)
 
-pub put_two-requires : goal.put_two-requires
+pub put_all-requires : goal.put_all-requires
 unfolding push_variable
-put_two-requires c =
+put_all-requires c =
     let put = c.put-a1 in
     (rest c.constant-a2.ensures (rest put.ensures c.requires.1))
 
@@ -23,4 +23,4 @@ unfolding push_variable
 returns c =
     let constant = c.constant-a2 in
     let put = c.put-a1 in
-    then put.ensures (then constant.ensures c.put_two.ensures)
+    then put.ensures (then constant.ensures c.put_all.ensures)

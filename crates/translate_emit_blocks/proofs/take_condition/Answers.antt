@@ -3,10 +3,10 @@
 use Rattle.translate_rules.specs.Blocks.{take_condition}
 use Rattle.translate_emit_blocks.proofs.take_condition.Goals as goal
 
-pub put_four-requires : goal.put_four-requires
+pub put_all-requires : goal.put_all-requires
 unfolding take_condition
-put_four-requires c = c.requires
+put_all-requires c = c.requires
 
 pub returns : goal.returns
 unfolding take_condition
-returns c = c.put_four.ensures
+returns c = c.put_all.ensures

@@ -3,10 +3,10 @@
 use Rattle.translate_rules.specs.Blocks.{far_shift}
 use Rattle.translate_emit_operators.proofs.far_shift.Goals as goal
 
-pub put_four-requires : goal.put_four-requires
+pub put_all-requires : goal.put_all-requires
 unfolding far_shift
-put_four-requires c = c.requires
+put_all-requires c = c.requires
 
 pub returns : goal.returns
 unfolding far_shift
-returns c = c.put_four.ensures
+returns c = c.put_all.ensures

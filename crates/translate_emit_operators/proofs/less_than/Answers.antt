@@ -4,14 +4,14 @@ use Rattle.translate_emit_instructions.specs.Write.{first, rest, then}
 use Rattle.translate_rules.specs.Blocks.{less_than}
 use Rattle.translate_emit_operators.proofs.less_than.Goals as goal
 
-pub put_four-next-requires : goal.put_four-next-requires
+pub put_all-next-requires : goal.put_all-next-requires
 unfolding less_than
-put_four-next-requires c = first _ c.requires
+put_all-next-requires c = first _ c.requires
 
-pub put_three-requires : goal.put_three-requires
+pub put_all-requires : goal.put_all-requires
 unfolding less_than
-put_three-requires c = (rest c.put_four-next.ensures c.requires)
+put_all-requires c = (rest c.put_all-next.ensures c.requires)
 
 pub returns : goal.returns
 unfolding less_than
-returns c = then c.put_four-next.ensures c.put_three.ensures
+returns c = then c.put_all-next.ensures c.put_all.ensures

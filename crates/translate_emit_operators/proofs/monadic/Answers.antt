@@ -4,18 +4,18 @@ use borrow.Author.Tests.{ne_eqb}
 use Rattle.translate_rules.specs.Blocks.{work_monadic_code}
 use Rattle.translate_emit_operators.proofs.monadic.Goals as goal
 
-pub put_three-requires : goal.put_three-requires
+pub put_all-requires : goal.put_all-requires
 unfolding work_monadic_code
-put_three-requires c = rw c.if-o-eq-NEGATE.true at c.requires
+put_all-requires c = rw c.if-o-eq-NEGATE.true at c.requires
 
 pub returns-then-o-eq-NEGATE : goal.returns-then-o-eq-NEGATE
 unfolding work_monadic_code
-returns-then-o-eq-NEGATE c = rw c.if-o-eq-NEGATE.true c.put_three.ensures
+returns-then-o-eq-NEGATE c = rw c.if-o-eq-NEGATE.true c.put_all.ensures
 
-pub put_three-requires-2 : goal.put_three-requires-2
+pub put_all-requires-2 : goal.put_all-requires-2
 unfolding work_monadic_code
-put_three-requires-2 c = rw (ne_eqb _ 1 c.if-o-eq-NEGATE.false) at c.requires
+put_all-requires-2 c = rw (ne_eqb _ 1 c.if-o-eq-NEGATE.false) at c.requires
 
 pub returns : goal.returns
 unfolding work_monadic_code
-returns c = rw (ne_eqb _ 1 c.if-o-eq-NEGATE.false) c.put_three-2.ensures
+returns c = rw (ne_eqb _ 1 c.if-o-eq-NEGATE.false) c.put_all-2.ensures
