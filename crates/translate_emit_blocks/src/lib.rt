@@ -107,6 +107,7 @@ pub fn store_element(code: &mut [u8], at: usize, o: u32) -> usize
 }
 
 // The condition comes off the stack; if it holds the jump that follows is stepped over.
+#[tactic(auto, unfolding(translate_rules::specs::Blocks::take_condition))]
 pub fn take_condition(code: &mut [u8], at: usize) -> usize
     requires { Room code.old at take_condition }
     ensures { Wrote code.old at take_condition code.new result }
@@ -132,6 +133,7 @@ pub fn jump_over(code: &mut [u8], at: usize, to: usize) -> usize
 }
 
 // A jump at `at` back to `to`.
+#[tactic(auto, unfolding(translate_rules::specs::Blocks::jump_back))]
 pub fn jump_back(code: &mut [u8], at: usize, to: usize) -> usize
     requires { (to ≤ at) × Room code.old at (jump_back (at + 4 - to) ∷ []) }
     ensures { Wrote code.old at (jump_back (at + 4 - to) ∷ []) code.new result }

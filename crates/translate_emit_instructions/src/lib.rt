@@ -1,4 +1,4 @@
-// Instructions written to a buffer one at a time, and those that load a constant.
+// Instructions written to a buffer, one at a time or a list of them, and those that load a constant.
 // Every function takes the place to write at and returns the place after what it wrote.
 #![tactic(auto)]
 

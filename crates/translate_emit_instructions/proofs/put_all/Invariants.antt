@@ -1,5 +1,5 @@
 -- The invariant: the instructions before the index are written.
-use Rattle.std.proofs.Common.{◌≡◌, take}
+use Rattle.std.proofs.Common.{take}
 use Rattle.translate_emit_instructions.specs.Write.{Wrote}
 use Rattle.translate_emit_instructions.proofs.put_all.Given as goal
 
