@@ -1,14 +1,12 @@
 -- `translate_image::process`, `single`, `conditional` and `repeat` meet their contracts. Measure: 3r + 2 for a process in row r, 3r + 1 for one that is no sequence, 3r for an if or a while, since
--- those are called with the row itself. `Walk` says what a row's code is, `Onward` how a list is written, `Jumps` how an if and a while are.
+-- those are called with the row itself. `RowCode` says what a row's code is, `Onward` how a list is written, `Jumps` how an if and a while are.
 -- Assumes nothing.
-use mathlib.Core.Path.{◌≡◌}
 use native.Mathlib.Omega.{arith}
-use Rattle.x_program.specs.Layout as layout
 use Rattle.translate_rules.specs.ImageCode.{choice_code, repeat_code}
 use Rattle.translate_emit_instructions.specs.Write.{first, rest, none}
 use Rattle.translate_emit_blocks.specs.Jumps.{then_room, then_ahead, else_room, else_ahead, choice_wrote, body_room, body_ahead, back_room, repeat_wrote}
-use Rattle.translate_image_values.specs.RowCode.{named, only, kind_is, kind_from, kind_to, skip_code, stop_code, conditional_names, conditional_code, loop_names, loop_code}
-use Rattle.translate_image.specs.Onward.{onward, last, left, right, left_asks, turn}
+use Rattle.translate_image_values.specs.RowCode.{named, skip_code, stop_code, conditional_names, conditional_code, loop_names, loop_code}
+use Rattle.translate_image.specs.Onward.{left, right, left_asks, turn}
 use Rattle.translate_image.proofs.+conditional_process_repeat_single.Goals as goal
 
 pub conditional-expression-a1-requires : goal.conditional-expression-a1-requires
@@ -81,9 +79,6 @@ conditional-returns t c =
     (choice_wrote _ _ _ (rw (conditional_code c.requires.0 c.row_at-w.ensures) at c.requires.1) c.expression-a1.ensures c.take_condition-a2.ensures
     c.process-a3.ensures c.jump_over.ensures c.process-a4.ensures c.jump_over-2.ensures)
 
-pub process-loop-w-init : goal.process-loop-w-init
-process-loop-w-init t c = onward c.row_at-w.ensures c.requires.0 c.requires.1
-
 pub process-process-to-requires : goal.process-process-to-requires
 process-process-to-requires t c = let turn = c.loop-w in (omega (arith, (left turn.invariant c.loop-w-test.true).earlier, turn.invariant.least, c.requires.0), left_asks turn.invariant c.loop-w-test.true)
 
@@ -94,12 +89,6 @@ pub process-loop-w-preserved : goal.process-loop-w-preserved
 process-loop-w-preserved t c =
     let process = c.process-to in let if1 = c.loop-w-test in
     let turn' = c.loop-w in turn turn'.invariant if1.true c.row_at-w-in-loop-w.ensures process.ensures
-
-pub process-single-requires : goal.process-single-requires
-process-single-requires t c = let turn = c.loop-w in (omega (arith, turn.invariant.least, c.requires.0), (last turn.invariant c.loop-w-test.false, turn.invariant.room))
-
-pub process-returns : goal.process-returns
-process-returns t c = c.loop-w.invariant.ends _ _ c.single.ensures
 
 pub repeat-expression-a1-requires : goal.repeat-expression-a1-requires
 repeat-expression-a1-requires t c = (
@@ -160,21 +149,3 @@ single-put-requires t c = rw (stop_code c.requires.0.0 c.row_at.ensures c.in-9.i
 
 pub single-returns-in-9 : goal.single-returns-in-9
 single-returns-in-9 t c = rw (stop_code c.requires.0.0 c.row_at.ensures c.in-9.is) c.put.ensures
-
-pub single-assign-requires : goal.single-assign-requires
-single-assign-requires t c = (only c.requires.0.0 (kind_is c.requires.0.0 c.row_at.ensures c.in-10.is), c.requires.1)
-
-pub single-assign_element-requires : goal.single-assign_element-requires
-single-assign_element-requires t c = (only c.requires.0.0 (kind_is c.requires.0.0 c.row_at.ensures c.in-11.is), c.requires.1)
-
-pub single-conditional-requires : goal.single-conditional-requires
-single-conditional-requires t c = (omega (arith, c.requires.0), (only c.requires.0.0 (kind_is c.requires.0.0 c.row_at.ensures c.in-13.is), c.requires.1))
-
--- past the other kinds only the while is left
-pub single-repeat-requires : goal.single-repeat-requires
-single-repeat-requires t c =
-    let h = c.requires.0.0 in
-    let e = c.row_at.ensures in
-    let s : c.row_at.result.kind ≡ layout.sequence → ⊥ = λ q. c.requires.0.1 (kind_is h e q) in
-    let k : c.row_at.result.kind ≡ layout.while = omega (arith, kind_from h e, kind_to h e) in
-    (omega arith, (only h (kind_is h e k), c.requires.1))
