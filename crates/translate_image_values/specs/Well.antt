@@ -5,6 +5,7 @@ use Rattle.x_program.specs.Layout.{row_words}
 use Rattle.x_program.specs.Layout as layout
 use Rattle.x_program.specs.Table.{word}
 use Rattle.x_program.specs.Table as table
+use Rattle.x_program.specs.FittingRows as fitting
 use Rattle.x_program.specs.declared.table.Row.{Row}
 
 -- the four words of row r
@@ -17,10 +18,8 @@ pub record Declared (t : List ℕ) (r d : ℕ) : Type 0 where
   pub offset : word t d 1 ≤ 8192
 
 -- row s stands before row r, and its kind is from `low` to `high`
-pub record Earlier (low high : ℕ) (t : List ℕ) (r s : ℕ) : Type 0 where
-  pub earlier : s < r
-  pub from : low ≤ word t s 0
-  pub to : word t s 0 ≤ high
+abbrev pub Earlier : ℕ → ℕ → List ℕ → ℕ → ℕ → Type 0
+Earlier = fitting.Earlier
 
 -- "3 number [to] 7 diadic" are the expressions, "8 skip [to] 14 while" the processes
 abbrev pub Expression : List ℕ → ℕ → ℕ → Type 0
