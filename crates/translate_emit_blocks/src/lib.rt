@@ -150,6 +150,7 @@ pub fn take_condition(code: &mut [u8], at: usize) -> usize
 }
 
 // A jump at `at` over what stands up to `to`.
+#[tactic(auto, unfolding(translate_rules::specs::Blocks::jump_over))]
 pub fn jump_over(code: &mut [u8], at: usize, to: usize) -> usize
     requires { Ahead code.old at to }
     ensures { Wrote code.old at (jump_over (to - (at + 4)) ∷ []) code.new result }

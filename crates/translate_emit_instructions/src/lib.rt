@@ -1,5 +1,6 @@
 // Instructions written to a buffer, one at a time or a list of them, and those that load a constant.
-// Every function takes the place to write at and returns the place after what it wrote.
+// Every function takes the place to write at and returns the place after what it wrote. Buffer and place are no struct: a jump is written into a gap
+// behind the place that is reached, at a place of its own, and a struct that holds the buffer's `&mut` must say in each contract that it is still the same.
 #![tactic(auto)]
 
 ghost use Rattle.std.specs.Prelude.{[], ◌∷◌};
