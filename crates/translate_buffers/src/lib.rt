@@ -3,36 +3,20 @@
 
 ghost use Rattle.std.specs.Prelude.{◌≡◌, ◌++◌, ◌-◌, ◌≤◌, length, take, drop, replicate};
 
-// The words from n on are zeroed.
-pub fn clear_words(words: &mut [u32], n: usize)
-    ensures { words.new ≡ take n words.old ++ replicate (length words.old - n) 0 }
+// The cells from n on are zeroed.
+pub fn clear<T: Copy + From<u8>>(cells: &mut [T], n: usize)
+    ensures { (zero : T) × T.from_gives 0 zero × (cells.new ≡ take n cells.old ++ replicate (length cells.old - n) zero) }
 {
-    let mut i = n;
-    while i < words.len() {
-        words[i] = 0;
-        i += 1;
+    let zero = T::from(0);
+    for i in n..cells.len() {
+        cells[i] = zero;
     }
 }
 
-// The bytes from n on are zeroed.
-pub fn clear_bytes(bytes: &mut [u8], n: usize)
-    ensures { bytes.new ≡ take n bytes.old ++ replicate (length bytes.old - n) 0 }
-{
-    let mut i = n;
-    while i < bytes.len() {
-        bytes[i] = 0;
-        i += 1;
-    }
-}
-
-// The first n words are copied.
-pub fn copy_words(from: &[u32], to: &mut [u32], n: usize)
+// The first n cells are copied.
+pub fn copy<T: Copy>(from: &[T], to: &mut [T], n: usize)
     requires { (n ≤ length from.now) × (n ≤ length to.old) }
     ensures { to.new ≡ take n from.now ++ drop n to.old }
 {
-    let mut i = 0;
-    while i < n {
-        to[i] = from[i];
-        i += 1;
-    }
+    to[..n].copy_from_slice(&from[..n]);
 }

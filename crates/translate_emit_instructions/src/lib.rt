@@ -1,5 +1,6 @@
-// Instructions written to a buffer one at a time, and those that load a constant.
-// Every function takes the place to write at and returns the place after what it wrote.
+// Instructions written to a buffer, one at a time or a list of them, and those that load a constant.
+// Every function takes the place to write at and returns the place after what it wrote. Buffer and place are no struct: a jump is written into a gap
+// behind the place that is reached, at a place of its own, and a struct that holds the buffer's `&mut` must say in each contract that it is still the same.
 #![tactic(auto)]
 
 ghost use Rattle.std.specs.Prelude.{[], ◌∷◌};
@@ -30,28 +31,16 @@ pub fn put(code: &mut [u8], at: usize, i: Instr) -> usize
     }
 }
 
-pub fn put_two(code: &mut [u8], at: usize, i: Instr, j: Instr) -> usize
-    requires { Room code.old at (i ∷ j ∷ []) }
-    ensures { Wrote code.old at (i ∷ j ∷ []) code.new result }
+// Instructions, one after another.
+pub fn put_all(code: &mut [u8], at: usize, instructions: &[Instr]) -> usize
+    requires { Room code.old at instructions.now }
+    ensures { Wrote code.old at instructions.now code.new result }
 {
-    let next = put(code, at, i);
-    put(code, next, j)
-}
-
-pub fn put_three(code: &mut [u8], at: usize, i: Instr, j: Instr, k: Instr) -> usize
-    requires { Room code.old at (i ∷ j ∷ k ∷ []) }
-    ensures { Wrote code.old at (i ∷ j ∷ k ∷ []) code.new result }
-{
-    let next = put_two(code, at, i, j);
-    put(code, next, k)
-}
-
-pub fn put_four(code: &mut [u8], at: usize, i: Instr, j: Instr, k: Instr, l: Instr) -> usize
-    requires { Room code.old at (i ∷ j ∷ k ∷ l ∷ []) }
-    ensures { Wrote code.old at (i ∷ j ∷ k ∷ l ∷ []) code.new result }
-{
-    let next = put_two(code, at, i, j);
-    put_two(code, next, k, l)
+    let mut next = at;
+    for i in instructions {
+        next = put(code, next, *i);
+    }
+    next
 }
 
 // Register d takes the word w.
@@ -64,26 +53,26 @@ pub fn constant(code: &mut [u8], at: usize, d: u8, w: u32) -> usize
     }
     let below = u32::trailing_zeros(w);
     if 24 <= u32::leading_zeros(w) + below {
-        return put_two(
+        return put_all(
             code,
             at,
-            Instr::Movi(d, (w >> below) as u8),
-            Instr::Shli(below as u8, d, d),
+            &[
+                Instr::Movi(d, (w >> below) as u8),
+                Instr::Shli(below as u8, d, d),
+            ],
         );
     }
-    let next = put_four(
+    put_all(
         code,
         at,
-        Instr::Movi(d, (w / 16777216) as u8),
-        Instr::Shli(8, d, d),
-        Instr::Addi(d, (w / 65536 % 256) as u8),
-        Instr::Shli(8, d, d),
-    );
-    put_three(
-        code,
-        next,
-        Instr::Addi(d, (w / 256 % 256) as u8),
-        Instr::Shli(8, d, d),
-        Instr::Addi(d, (w % 256) as u8),
+        &[
+            Instr::Movi(d, (w / 16777216) as u8),
+            Instr::Shli(8, d, d),
+            Instr::Addi(d, (w / 65536 % 256) as u8),
+            Instr::Shli(8, d, d),
+            Instr::Addi(d, (w / 256 % 256) as u8),
+            Instr::Shli(8, d, d),
+            Instr::Addi(d, (w % 256) as u8),
+        ],
     )
 }

@@ -2,73 +2,82 @@
 // Every function takes the place to write at and returns the place after what it wrote.
 #![tactic(auto)]
 
-ghost use Rattle.std.specs.Prelude.{[], ◌∷◌};
-ghost use Rattle.arm_encoding.specs.declared.Instr.TheVariants.{Subr, Beq, Movi};
-ghost use Rattle.translate_rules.specs.Blocks.{work_monadic_code, work_diadic_code, less_than, far_shift, diadic_instructions};
+ghost use Rattle.std.specs.Prelude.{◌≡◌, [], ◌∷◌, ◌++◌};
+ghost use Rattle.arm_encoding.specs.declared.Instr.TheVariants.{Subr, Beq, Movi, Mvnr};
+ghost use Rattle.translate_rules.specs.Blocks.{monadic_instruction, work_monadic_code, work_diadic_code, less_than, far_shift, diadic_instructions};
 ghost use Rattle.x_program.specs.Table.{monadic_of, diadic_of};
 ghost use Rattle.translate_emit_instructions.specs.Write.{Room, Wrote};
 
 use arm_encoding::Instr;
-use translate_emit_instructions::{put, put_four, put_three};
+use translate_emit_instructions::{put, put_all};
 use x_program::operator;
 
+// The instruction that works r0 by the monadic operator of number o.
+fn monadic_instruction(o: u32) -> Instr
+    ensures { result ≡ monadic_instruction (monadic_of o) }
+{
+    match o {
+        operator::NEGATE => Instr::Negr(0, 0),
+        _ => Instr::Mvnr(0, 0),
+    }
+}
+
 // The word on the stack gives way to the result of the monadic operator of number o.
+#[tactic(auto, unfolding(translate_rules::specs::Blocks::work_monadic_code))]
 pub fn monadic(code: &mut [u8], at: usize, o: u32) -> usize
     requires { Room code.old at (work_monadic_code (monadic_of o)) }
     ensures { Wrote code.old at (work_monadic_code (monadic_of o)) code.new result }
 {
-    if o == operator::NEGATE {
-        return put_three(
-            code,
-            at,
-            Instr::Ldrspi(0, 0),
-            Instr::Negr(0, 0),
-            Instr::Strspi(0, 0),
-        );
-    }
-    put_three(
-        code,
-        at,
-        Instr::Ldrspi(0, 0),
-        Instr::Mvnr(0, 0),
-        Instr::Strspi(0, 0),
-    )
+    let work = monadic_instruction(o);
+    put_all(code, at, &[Instr::Ldrspi(0, 0), work, Instr::Strspi(0, 0)])
 }
 
 // r0 takes the truth of register i being below register j as signed numbers.
+#[tactic(auto, unfolding(translate_rules::specs::Blocks::less_than))]
 fn less_than(code: &mut [u8], at: usize, i: u8, j: u8) -> usize
     requires { Room code.old at (less_than i j) }
     ensures { Wrote code.old at (less_than i j) code.new result }
 {
-    let next = put_four(
+    put_all(
         code,
         at,
-        Instr::Shri(31, i, 2),
-        Instr::Shri(31, j, 3),
-        Instr::Subr(3, 2, 3),
-        Instr::Bne(1),
-    );
-    put_three(
-        code,
-        next,
-        Instr::Subr(j, i, 0),
-        Instr::Shri(31, 0, 2),
-        Instr::Negr(2, 0),
+        &[
+            Instr::Shri(31, i, 2),
+            Instr::Shri(31, j, 3),
+            Instr::Subr(3, 2, 3),
+            Instr::Bne(1),
+            Instr::Subr(j, i, 0),
+            Instr::Shri(31, 0, 2),
+            Instr::Negr(2, 0),
+        ],
     )
 }
 
-// A shift count above 31 makes value and count 0.
-fn far_shift(code: &mut [u8], at: usize) -> usize
-    requires { Room code.old at far_shift }
-    ensures { Wrote code.old at far_shift code.new result }
+// The opposite of that truth.
+fn not_less_than(code: &mut [u8], at: usize, i: u8, j: u8) -> usize
+    requires { Room code.old at (less_than i j ++ Mvnr 0 0 ∷ []) }
+    ensures { Wrote code.old at (less_than i j ++ Mvnr 0 0 ∷ []) code.new result }
 {
-    put_four(
+    let next = less_than(code, at, i, j);
+    put(code, next, Instr::Mvnr(0, 0))
+}
+
+// A shift, by the instruction `last`: a count above 31 makes value and count 0 first.
+#[tactic(auto, unfolding(translate_rules::specs::Blocks::far_shift))]
+fn shift(code: &mut [u8], at: usize, last: Instr) -> usize
+    requires { Room code.old at (far_shift ++ last ∷ []) }
+    ensures { Wrote code.old at (far_shift ++ last ∷ []) code.new result }
+{
+    put_all(
         code,
         at,
-        Instr::Shri(5, 1, 2),
-        Instr::Beq(1),
-        Instr::Movi(0, 0),
-        Instr::Movi(1, 0),
+        &[
+            Instr::Shri(5, 1, 2),
+            Instr::Beq(1),
+            Instr::Movi(0, 0),
+            Instr::Movi(1, 0),
+            last,
+        ],
     )
 }
 
@@ -77,13 +86,10 @@ fn equality(code: &mut [u8], at: usize, last: Instr) -> usize
     requires { Room code.old at (Subr 1 0 0 ∷ Beq 0 ∷ Movi 0 1 ∷ last ∷ []) }
     ensures { Wrote code.old at (Subr 1 0 0 ∷ Beq 0 ∷ Movi 0 1 ∷ last ∷ []) code.new result }
 {
-    put_four(
+    put_all(
         code,
         at,
-        Instr::Subr(1, 0, 0),
-        Instr::Beq(0),
-        Instr::Movi(0, 1),
-        last,
+        &[Instr::Subr(1, 0, 0), Instr::Beq(0), Instr::Movi(0, 1), last],
     )
 }
 
@@ -99,26 +105,14 @@ fn diadic_instructions(code: &mut [u8], at: usize, o: u32) -> usize
         operator::AND => put(code, at, Instr::Andr(1, 0)),
         operator::OR => put(code, at, Instr::Orr(1, 0)),
         operator::XOR => put(code, at, Instr::Xorr(1, 0)),
-        operator::SHIFT_RIGHT => {
-            let next = far_shift(code, at);
-            put(code, next, Instr::Shr(1, 0))
-        }
-        operator::SHIFT_LEFT => {
-            let next = far_shift(code, at);
-            put(code, next, Instr::Shl(1, 0))
-        }
+        operator::SHIFT_RIGHT => shift(code, at, Instr::Shr(1, 0)),
+        operator::SHIFT_LEFT => shift(code, at, Instr::Shl(1, 0)),
         operator::EQUAL => equality(code, at, Instr::Subi(0, 1)),
         operator::UNEQUAL => equality(code, at, Instr::Negr(0, 0)),
         operator::LESS => less_than(code, at, 0, 1),
-        operator::AT_MOST => {
-            let next = less_than(code, at, 1, 0);
-            put(code, next, Instr::Mvnr(0, 0))
-        }
+        operator::AT_MOST => not_less_than(code, at, 1, 0),
         operator::GREATER => less_than(code, at, 1, 0),
-        _ => {
-            let next = less_than(code, at, 0, 1);
-            put(code, next, Instr::Mvnr(0, 0))
-        }
+        _ => not_less_than(code, at, 0, 1),
     }
 }
 
@@ -127,12 +121,10 @@ pub fn diadic(code: &mut [u8], at: usize, o: u32) -> usize
     requires { Room code.old at (work_diadic_code (diadic_of o)) }
     ensures { Wrote code.old at (work_diadic_code (diadic_of o)) code.new result }
 {
-    let a1 = put_three(
+    let a1 = put_all(
         code,
         at,
-        Instr::Ldrspi(1, 0),
-        Instr::Incsp(1),
-        Instr::Ldrspi(0, 0),
+        &[Instr::Ldrspi(1, 0), Instr::Incsp(1), Instr::Ldrspi(0, 0)],
     );
     let a2 = diadic_instructions(code, a1, o);
     put(code, a2, Instr::Strspi(0, 0))

@@ -17,7 +17,7 @@ use Rattle.x_program.specs.Core as core
 use Rattle.x_program.specs.Rows.{monadic_number, diadic_number, row, row_of, declared_rows, count, rows, count_process, rows_process, table_of, row_count}
 use Rattle.x_program.specs.Table.{word, process_at}
 use Rattle.x_program.specs.Sound.{Declares, SoundExpression, SoundProcess, Sound, declared_row, declared_inside}
-use Rattle.x_program.specs.TableReadBack.{Holds, front, behind, length_rows, some_rows, length_rows_process, some_rows_process, length_declared, declared_word}
+use Rattle.x_program.specs.TableReadBack.{Holds, front, behind, length_rows, some_rows, length_rows_process, some_rows_process, length_declared, length_row_of, declared_word}
 use Rattle.x_program.proofs.TableReadBack.{read_back}
 use Rattle.translate_rules.specs.InstructionBytes.{bytes, size}
 use Rattle.translate_rules.specs.ImageCode.{image_code, image}
@@ -56,10 +56,6 @@ declaration_names : (t : List ℕ) (d : Declaration) (n k : ℕ) → Holds t n (
 unfolding Names
 declaration_names t var n k h = let e : word t n 0 ≡ layout.var = h.at 0 (omega arith) in rw e tt
 declaration_names t (array m) n k h = let e : word t n 0 ≡ layout.array = h.at 0 (omega arith) in rw e tt
-
-length_row_of : (d : Declaration) (k : ℕ) → length (row_of d k) ≡ row_words * 1
-length_row_of var k = refl
-length_row_of (array n) k = refl
 
 declared_names : (t : List ℕ) (ds : List Declaration) (n k s : ℕ) → Holds t n (declared_rows ds k) → n ≤ s → s < n + length ds → Names t s
 unfolding declared_rows

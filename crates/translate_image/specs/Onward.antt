@@ -3,7 +3,7 @@ use Rattle.std.specs.Prelude.{◌≡◌, List, ◌++◌, ℕ, suc, ◌≤◌}
 use Rattle.std.proofs.Common.{ap, ◌∙◌, arith}
 use Rattle.x_program.specs.Layout as layout
 use Rattle.translate_emit_instructions.specs.Write.{Room, Wrote, first, rest, then}
-use Rattle.translate_image_values.specs.declared.Row.{Row}
+use Rattle.x_program.specs.declared.table.Row.{Row}
 use Rattle.translate_image_values.specs.Well.{row_in, Earlier, WellProcess, WellSingle}
 use Rattle.translate_image_values.specs.RowCode.{process_in, named, sequence_names, sequence_code}
 

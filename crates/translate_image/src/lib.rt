@@ -10,8 +10,9 @@ ghost use Rattle.translate_image_values.specs.Well.{Well, WellProcess, WellSingl
 ghost use Rattle.translate_image_values.specs.RowCode.{process_in};
 
 use arm_encoding::Instr;
-use translate_image_values::{assign, assign_element, expression, read_row};
+use translate_image_values::{assign, assign_element, expression};
 use x_program::row;
+use x_program::table::row_at;
 
 // The code of the process in row r. Lists are grouped to the right: a part at a time, then the last.
 #[cycle(conditional_process_repeat_single)]
@@ -21,11 +22,11 @@ fn process(table: &[u32], code: &mut [u8], r: usize, at: usize) -> usize
 {
     let mut last = r;
     let mut to = at;
-    let mut w = read_row(table, r);
+    let mut w = row_at(table, r);
     while w.kind == row::SEQUENCE {
         to = process(table, code, w.a as usize, to);
         last = w.b as usize;
-        w = read_row(table, last);
+        w = row_at(table, last);
     }
     single(table, code, last, to)
 }
@@ -36,24 +37,14 @@ fn single(table: &[u32], code: &mut [u8], r: usize, at: usize) -> usize
     requires { WellSingle table.now r × Room code.old at (process_in table.now r) }
     ensures { Wrote code.old at (process_in table.now r) code.new result }
 {
-    let w = read_row(table, r);
-    let kind = w.kind;
-    if kind == row::SKIP {
-        return at;
+    match row_at(table, r).kind {
+        row::SKIP => at,
+        row::STOP => translate_emit_instructions::put(code, at, Instr::Svc(1)),
+        row::ASSIGN => assign(table, code, r, at),
+        row::ASSIGN_ELEMENT => assign_element(table, code, r, at),
+        row::IF => conditional(table, code, r, at),
+        _ => repeat(table, code, r, at),
     }
-    if kind == row::STOP {
-        return translate_emit_instructions::put(code, at, Instr::Svc(1));
-    }
-    if kind == row::ASSIGN {
-        return assign(table, code, r, at);
-    }
-    if kind == row::ASSIGN_ELEMENT {
-        return assign_element(table, code, r, at);
-    }
-    if kind == row::IF {
-        return conditional(table, code, r, at);
-    }
-    repeat(table, code, r, at)
 }
 
 // Row r is an if: each part is written before the jump over it.
@@ -62,7 +53,7 @@ fn conditional(table: &[u32], code: &mut [u8], r: usize, at: usize) -> usize
     requires { Well layout.if layout.if table.now r × Room code.old at (process_in table.now r) }
     ensures { Wrote code.old at (process_in table.now r) code.new result }
 {
-    let w = read_row(table, r);
+    let w = row_at(table, r);
     let a1 = expression(table, code, w.a as usize, at);
     let a2 = translate_emit_blocks::take_condition(code, a1);
     let a3 = process(table, code, w.b as usize, a2 + 4);
@@ -78,7 +69,7 @@ fn repeat(table: &[u32], code: &mut [u8], r: usize, at: usize) -> usize
     requires { Well layout.while layout.while table.now r × Room code.old at (process_in table.now r) }
     ensures { Wrote code.old at (process_in table.now r) code.new result }
 {
-    let w = read_row(table, r);
+    let w = row_at(table, r);
     let a1 = expression(table, code, w.a as usize, at);
     let a2 = translate_emit_blocks::take_condition(code, a1);
     let a3 = process(table, code, w.b as usize, a2 + 4);

@@ -10,7 +10,7 @@ use Rattle.x_program.specs.Table.{word, monadic_of, diadic_of, expression_at, pr
 use Rattle.x_program.specs.TableLaws.{at_constant, at_variable, at_element, at_monadic, at_diadic, at_skip, at_stop, at_assign, at_assign_element, at_sequence, at_conditional, at_loop}
 use Rattle.translate_rules.specs.Blocks.{push_constant, push_variable, check_subscript, load_element, work_monadic_code, work_diadic_code, assign_variable, store_element}
 use Rattle.translate_rules.specs.ImageCode.{expression_code, process_code, choice_code, repeat_code}
-use Rattle.translate_image_values.specs.declared.Row.{Row}
+use Rattle.x_program.specs.declared.table.Row.{Row}
 use Rattle.translate_image_values.specs.Well.{row_in, Declared, Earlier, Expression, Process, Names, Well}
 
 -- the code of the expression in row r, of the process

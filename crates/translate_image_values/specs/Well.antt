@@ -4,11 +4,13 @@ use Rattle.arm_word.specs.Choice.{pick}
 use Rattle.x_program.specs.Layout.{row_words}
 use Rattle.x_program.specs.Layout as layout
 use Rattle.x_program.specs.Table.{word}
-use Rattle.translate_image_values.specs.declared.Row.{Row}
+use Rattle.x_program.specs.Table as table
+use Rattle.x_program.specs.FittingRows as fitting
+use Rattle.x_program.specs.declared.table.Row.{Row}
 
 -- the four words of row r
 abbrev pub row_in : List ℕ → ℕ → Row
-row_in t r = record { kind = word t r 0; a = word t r 1; b = word t r 2; c = word t r 3 }
+row_in = table.row_in
 
 -- row d stands before row r, and its offset is one in data: "data above 8,192 words" is refused
 pub record Declared (t : List ℕ) (r d : ℕ) : Type 0 where
@@ -16,10 +18,8 @@ pub record Declared (t : List ℕ) (r d : ℕ) : Type 0 where
   pub offset : word t d 1 ≤ 8192
 
 -- row s stands before row r, and its kind is from `low` to `high`
-pub record Earlier (low high : ℕ) (t : List ℕ) (r s : ℕ) : Type 0 where
-  pub earlier : s < r
-  pub from : low ≤ word t s 0
-  pub to : word t s 0 ≤ high
+abbrev pub Earlier : ℕ → ℕ → List ℕ → ℕ → ℕ → Type 0
+Earlier = fitting.Earlier
 
 -- "3 number [to] 7 diadic" are the expressions, "8 skip [to] 14 while" the processes
 abbrev pub Expression : List ℕ → ℕ → ℕ → Type 0

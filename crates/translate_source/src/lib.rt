@@ -16,7 +16,7 @@ ghost use Rattle.translate_source.specs.Translate.{filled, left, translated, tra
 ghost use Rattle.translate_source.specs.Filled.{Parts};
 
 use front_analysis::{Analysis, analyse};
-use translate_buffers::{clear_bytes, clear_words, copy_words};
+use translate_buffers::{clear, copy};
 use translate_image::image;
 use x_program::row;
 
@@ -53,8 +53,8 @@ fn fill_table(rows: &[u32], count: usize, table: &mut [u32])
     requires { (count ≤ 1024) × ((row_words * count ≤ length rows.now) × (row_words * count ≤ length table.old)) }
     ensures { (xs : List ℕ) → length xs ≡ row_words * count → Holds rows.now 0 xs → table.new ≡ filled (length table.old) xs }
 {
-    copy_words(rows, table, row::WORDS * count);
-    clear_words(table, row::WORDS * count);
+    copy(rows, table, row::WORDS * count);
+    clear(table, row::WORDS * count);
 }
 
 // The image of the rows into the lent code buffer, the rest of which is zeroed.
@@ -64,7 +64,7 @@ fn fill_code(rows: &[u32], count: usize, code: &mut [u8]) -> usize
         → (code.new ≡ filled (length code.old) (rules.image q)) × (result ≡ length (rules.image q)) }
 {
     let end = image(rows, count, code);
-    clear_bytes(code, end);
+    clear(code, end);
     end
 }
 

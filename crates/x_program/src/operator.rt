@@ -1,4 +1,5 @@
-// The operators' numbers in the syntax table, monadic and diadic. See specs/Rows.antt.
+// The operators' numbers in the syntax table, monadic and diadic. See specs/Rows.antt. Numbers and no enums, as the kinds of rows (row.rt): `diadic_of` of
+// specs/Table.antt takes any word for an operator.
 pub const NEGATE: u32 = 1;
 
 pub const INVERT: u32 = 2;

@@ -1,4 +1,5 @@
-// The syntax table's rows: their words, and their kinds by number. See specs/Layout.antt.
+// The syntax table's rows: their words, and their kinds by number. See specs/Layout.antt. Numbers and no enum: a kind is a word of a table that C lends,
+// and the definitions say for every word what a reader does with it. A reader's match on these numbers is already the conversion; an enum would put another before it.
 pub const WORDS: usize = 4;
 
 pub const VAR: u32 = 1;

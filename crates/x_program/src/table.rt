@@ -6,7 +6,7 @@ use crate::row;
 use arm_word::word_at;
 
 // A row's four words.
-#[derive(Clone, Copy)]
+#[derive(Clone, Copy, Default)]
 pub struct Row {
     pub kind: u32,
     pub a: u32,
@@ -19,12 +19,7 @@ pub fn row_at(table: &[u32], r: usize) -> Row
     ensures { result ≡ row_in table.now r }
 {
     if table.len() <= r {
-        return Row {
-            kind: 0,
-            a: 0,
-            b: 0,
-            c: 0,
-        };
+        return Row::default();
     }
     let at = row::WORDS * r;
     Row {

@@ -11,7 +11,3 @@ unfolding jump_over
 put-requires c =
     let s = jump_size (c.args.to - (c.args.at + 4)) (omega (arith, c.requires)) in
     record { fits = omega (arith, c.requires); near = omega (arith, c.requires) }
-
-pub returns : goal.returns
-unfolding jump_over
-returns c = c.put.ensures

@@ -11,4 +11,4 @@ pub returns : goal.returns
 returns c =
     let image = c.image-end in let a = c.args in
     λ q s h e l. let w = subst (λ (k : ℕ). Wrote a.code.now 0 (image_code (process_at a.rows.now (k - 1))) image.new.code image.result) e image.ensures in
-    (c.clear_bytes.ensures ∙ image_filled q a.rows.now s h l w, (image_written q a.rows.now s h w).1)
+    (rw c.clear.ensures.1 at c.clear.ensures.2 ∙ image_filled q a.rows.now s h l w, (image_written q a.rows.now s h w).1)
