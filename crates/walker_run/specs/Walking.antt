@@ -1,5 +1,5 @@
 -- The loop over the rows: what the walker has come to before each. Definitions and laws; rests on Working and on the laws of the table's run.
-use Rattle.std.specs.Prelude.{◌≡◌, Bool, true, false, List, [], ◌∷◌, ◌++◌, length, take, eqb}
+use Rattle.std.specs.Prelude.{◌≡◌, Bool, true, false, List, [], ◌∷◌, ◌++◌, length, take, eqb, Some, None}
 use Rattle.std.proofs.Math.Path.{refl, ap}
 use Rattle.std.proofs.Common.{sym, subst, ◌∙◌}
 use Prim.Native.Nat.{ℕ, zero, suc, ◌+◌, ◌-◌, ◌≤◌, ◌<◌}
@@ -21,7 +21,6 @@ use Rattle.x_meaning.specs.TableCounts.{due}
 use Rattle.x_meaning.proofs.TableCounts.{turn_due}
 use Rattle.walker_check.specs.TableCheck.{checked}
 use Rattle.walker_check.specs.TableCheckLaws.{checked_refused, checked_valid}
-use Rattle.walker_check.specs.declared.Checked.TheVariants.{Refused, Data}
 use Rattle.walker_arrays.specs.WalkNumbers as number
 use Rattle.walker_arrays.specs.AccessEntries.{entries, handed}
 use Rattle.walker_run.specs.Handed.{WalkLeft, left, left_of, left_by_walk}
@@ -181,11 +180,11 @@ module _ {t : List ℕ} {v : Valid t} {f : ℕ} {old : List ℕ} {limit : ℕ} {
 
 module _ (limit f : ℕ) (t memory old : List ℕ) where
   -- "Both leave the memory untouched and 0 steps"
-  pub bad_table : checked t ≡ Refused → left (record { status = 36; number = 0; steps = 0; accesses = 0 }) memory old ≡ left_by_walk limit f t memory old
+  pub bad_table : checked t ≡ None → left (record { status = 36; number = 0; steps = 0; accesses = 0 }) memory old ≡ left_by_walk limit f t memory old
   unfolding left_by_walk walk_of
   bad_table e = rw (checked_refused t e) (ap (left (record { status = 36; number = 0; steps = 0; accesses = 0 }) memory) (sym (handed_none f old)))
 
-  module _ (n : ℕ) (e : checked t ≡ Data n) where
+  module _ (n : ℕ) (e : checked t ≡ Some n) where
     pub short_memory : length memory < n → left (record { status = 33; number = 0; steps = 0; accesses = 0 }) memory old ≡ left_by_walk limit f t memory old
     unfolding left_by_walk walk_of
     short_memory h =

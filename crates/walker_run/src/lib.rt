@@ -14,7 +14,7 @@ ghost use Rattle.walker_run.specs.Walking as walking;
 
 use arm_word::word_at;
 use walker_arrays::{Control, at_row, ended, item, mode, one_less, push, put, settling};
-use walker_check::{Checked, check};
+use walker_check::check;
 use walker_items::act;
 use x_program::row;
 use x_program::table::{Row, row_at};
@@ -242,7 +242,7 @@ pub fn walk(
 ) -> Walked
     ensures { left result memory.new accesses.new ≡ left_by_walk limit first table.now memory.old accesses.old }
 {
-    let Checked::Data(n) = check(table) else {
+    let Some(n) = check(table) else {
         return refused(BAD_TABLE);
     };
     let data = n as usize;
