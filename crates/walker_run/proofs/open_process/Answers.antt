@@ -1,47 +1,40 @@
 -- `walker_run::open_process` meets its contract, kind by kind.
 -- Assumes nothing.
+use mathlib.Core.Path.{ap, ◌∙◌}
+use mathlib.Core.List.{◌∷◌}
 use native.Mathlib.Omega.{arith}
+use lib.ListN.{length}
+use Rattle.walker_arrays.specs.declared.item.Item.TheVariants as to
 use Rattle.walker_run.specs.Opening.{opens_skip, opens_stop, opens_assign, opens_assign_element, opens_sequence, opens_if, opens_while}
 use Rattle.walker_run.proofs.open_process.Goals as goal
 
-pub returns-then-w-eq-SKIP : goal.returns-then-w-eq-SKIP
-returns-then-w-eq-SKIP c =
-    (λ t first old pile words buffer y b.
-    rw c.settling.ensures (opens_skip b c.if-w-eq-SKIP.true))
+pub returns-in-8 : goal.returns-in-8
+returns-in-8 c = λ t pile words l h. let a = c.args in opens_skip t a.r a.w pile words l a.items.now c.in-8.is
 
-pub returns-then-w-eq-STOP : goal.returns-then-w-eq-STOP
-returns-then-w-eq-STOP c =
-    (λ t first old pile words buffer y b.
-    rw c.ended.ensures (opens_stop b c.if-w-eq-STOP.true))
+pub returns-in-9 : goal.returns-in-9
+returns-in-9 c = λ t pile words l h. let a = c.args in opens_stop t a.r a.w pile words l a.items.now c.in-9.is
 
-pub returns-then-w-eq-ASSIGN : goal.returns-then-w-eq-ASSIGN
-returns-then-w-eq-ASSIGN c =
-    (λ t first old pile words buffer y b.
-    let p = c.push-height.ensures (omega (arith, b.high)) (omega arith) in
-    rw c.at_row.ensures (opens_assign b c.if-w-eq-ASSIGN.true p))
+pub returns-in-10 : goal.returns-in-10
+returns-in-10 c = λ t pile words l h. let a = c.args in opens_assign t a.r a.w pile words l a.items.now c.in-10.is (c.push.ensures.room (omega arith))
 
-pub returns-then-w-eq-ASSIGN_ELEMENT : goal.returns-then-w-eq-ASSIGN_ELEMENT
-returns-then-w-eq-ASSIGN_ELEMENT c =
-    (λ t first old pile words buffer y b.
-    let p = c.push-stored.ensures (omega (arith, b.high)) (omega arith) in
-    let q = c.push-valued.ensures (omega (arith, p.one, p.same, b.high)) (omega arith) in
-    let u = c.push-height-then-w-eq-ASSIGN_ELEMENT.ensures (omega (arith, p.one, p.same, q.one, q.same, b.high)) (omega arith) in
-    rw c.at_row-then-w-eq-ASSIGN_ELEMENT.ensures (opens_assign_element b c.if-w-eq-ASSIGN_ELEMENT.true p q u))
+pub returns-in-11 : goal.returns-in-11
+returns-in-11 c =
+    λ t pile words l h.
+    let a = c.args in
+    let p = c.push-in-11.ensures.room (omega arith) in
+    let q = c.push-in-11-2.ensures.room (omega (arith, ap length p)) in
+    let u = c.push-in-11-3.ensures.room (omega (arith, ap length p, ap length q)) in
+    opens_assign_element t a.r a.w pile words l a.items.now c.in-11.is (u ∙ ap (λ i. to.Check a.r ∷ i) (q ∙ ap (λ i. to.Begin a.w.c ∷ i) p))
 
-pub returns-then-w-eq-SEQUENCE : goal.returns-then-w-eq-SEQUENCE
-returns-then-w-eq-SEQUENCE c =
-    (λ t first old pile words buffer y b.
-    let p = c.push-height-then-w-eq-SEQUENCE.ensures (omega (arith, b.high)) (omega arith) in
-    rw c.at_row-then-w-eq-SEQUENCE.ensures (opens_sequence b c.if-w-eq-SEQUENCE.true p))
+pub returns-in-12 : goal.returns-in-12
+returns-in-12 c = λ t pile words l h. let a = c.args in opens_sequence t a.r a.w pile words l a.items.now c.in-12.is (c.push-in-12.ensures.room (omega arith))
 
-pub returns-then-w-eq-IF : goal.returns-then-w-eq-IF
-returns-then-w-eq-IF c =
-    (λ t first old pile words buffer y b.
-    let p = c.push-height-then-w-eq-IF.ensures (omega (arith, b.high)) (omega arith) in
-    rw c.at_row-then-w-eq-IF.ensures (opens_if b c.if-w-eq-IF.true p))
+pub returns-in-13 : goal.returns-in-13
+returns-in-13 c = λ t pile words l h. let a = c.args in opens_if t a.r a.w pile words l a.items.now c.in-13.is (c.push-in-13.ensures.room (omega arith))
 
-pub returns : goal.returns
-returns c =
-    (λ t first old pile words buffer y b.
-    let p = c.push-height-2.ensures (omega (arith, b.high)) (omega arith) in
-    rw c.at_row-2.ensures (opens_while b c.if-w-eq-SKIP.false c.if-w-eq-STOP.false c.if-w-eq-ASSIGN.false c.if-w-eq-ASSIGN_ELEMENT.false c.if-w-eq-SEQUENCE.false c.if-w-eq-IF.false p))
+pub returns-in_default : goal.returns-in_default
+returns-in_default c =
+    λ t pile words l h.
+    let a = c.args in
+    opens_while t a.r a.w pile words l a.items.now (omega arith) (omega arith) (omega arith) (omega arith) (omega arith) (omega arith)
+    (c.push-in_default.ensures.room (omega arith))
