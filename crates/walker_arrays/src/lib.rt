@@ -45,7 +45,7 @@ pub fn take(pile: &mut Pile) -> u32
 
 // ---- words ----
 
-// By a test: with `get_mut` the proof didn't close.
+// By a test: after a slice's `get_mut` a proof knows none of its elements.
 pub fn set_word(words: &mut [u32], k: usize, w: u32)
     ensures { words.new ≡ slice_set words.old k w }
 {

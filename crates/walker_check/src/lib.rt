@@ -98,6 +98,7 @@ fn declared(w: Row) -> u32
 }
 
 // The first n rows, each as it should be: how many words they declare.
+#[tactic(auto, using(crate::specs::TableCheckLaws::refuses, crate::specs::TableCheckLaws::words_few, crate::specs::TableCheckLaws::counts, crate::specs::TableCheckLaws::all_counted))]
 fn rows_fit(table: &[u32], n: usize) -> Option<u32>
     requires { n ≤ 1024 }
     ensures { result ≡ counted table.now n }

@@ -31,6 +31,7 @@ fn truth(b: bool) -> u32
 }
 
 // The order of the words as signed numbers.
+#[tactic(auto, unfolding(arm_word::specs::Word::signed_less))]
 fn less(x: u32, y: u32) -> bool
     ensures { result ≡ word.signed_less x y }
 {
