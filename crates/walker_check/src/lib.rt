@@ -122,6 +122,7 @@ fn ends_in_process(table: &[u32], n: usize) -> bool
 }
 
 // The words of data of a table that 36 doesn't refuse.
+#[tactic(auto, using(crate::specs::TableCheckLaws::part_row, crate::specs::TableCheckLaws::many_rows, crate::specs::TableCheckLaws::no_process, crate::specs::TableCheckLaws::bad_row))]
 pub fn check(table: &[u32]) -> Option<u32>
     ensures { result ≡ checked table.now }
 {
