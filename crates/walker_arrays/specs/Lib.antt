@@ -1,5 +1,5 @@
 -- What a walk works with.
-pub mod WalkNumbers
+pub mod Stacks
 pub mod AccessEntries
 pub mod AccessEntryLaws
 pub mod WorkingArrays

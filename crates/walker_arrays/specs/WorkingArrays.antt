@@ -1,75 +1,60 @@
--- The walker's working arrays as a point of the table's run. Definitions and laws; rests on the table's run and on what a walk hands back.
-use Rattle.std.specs.Prelude.{◌≡◌, ℕ, zero, suc, ◌+◌, ◌-◌, ◌*◌, ◌/◌, ◌%◌, ◌^◌, ◌<◌, ◌≤◌, List, [], ◌∷◌, ◌++◌, length, ◌==◌, slice_index, slice_set}
-use Rattle.std.proofs.Math.Path.{refl, ap, ap₂}
-use Rattle.std.proofs.Common.{◌∙◌, arith, add-one, length-set, length-append, get_or-set_same, get_or-set_other}
-use Rattle.arm_word.specs.Choice.{pick}
+-- What the walker works with as a point of the table's run. Definitions and laws; rests on the table's run and on what a walk hands back.
+use Rattle.std.specs.Prelude.{◌≡◌, ℕ, ◌+◌, ◌-◌, ◌%◌, ◌^◌, ◌<◌, ◌≤◌, List, [], ◌∷◌, ◌++◌, length, map}
+use Rattle.std.proofs.Common.{◌∙◌, arith, length-append}
+use Rattle.arm_word.specs.Access as access
 use Rattle.arm_word.specs.Access.{Access}
-use Rattle.x_meaning.specs.SourceRun.{End, finish, stopped, bad_subscript, top, rest}
-use Rattle.x_meaning.specs.TableRun.{Item, begin, work₁, work₂, check, load, set_variable, store, choose, repeat, State, next, ended, settle}
+use Rattle.x_meaning.specs.SourceRun as source
+use Rattle.x_meaning.specs.TableRun as run
+use Rattle.x_meaning.specs.TableRun.{State, next, ended, settle}
 use Rattle.x_meaning.specs.TableHeights.{Below}
-use Rattle.walker_arrays.specs.WalkNumbers as number
 use Rattle.walker_arrays.specs.AccessEntries.{op_of, handed}
 use Rattle.walker_arrays.specs.AccessEntryLaws.{entered, skipped, listed}
-use Rattle.walker_arrays.specs.declared.Control.{Control}
+use Rattle.walker_arrays.specs.declared.access.Access.{Access as Made}
+use Rattle.walker_arrays.specs.declared.access.Kind.{Kind}
+use Rattle.walker_arrays.specs.declared.access.Kind.TheVariants.{Load as Loading, Store as Storing}
+use Rattle.walker_arrays.specs.declared.access.Listing.{Listing}
+use Rattle.walker_arrays.specs.declared.item.Item.{Item}
+use Rattle.walker_arrays.specs.declared.item.Item.TheVariants.{Begin, WorkMonadic, WorkDiadic, Check, Load, Set, Store, Choose, Repeat}
+use Rattle.walker_arrays.specs.declared.mode.Mode.{Mode}
+use Rattle.walker_arrays.specs.declared.mode.Mode.TheVariants.{Settling, AtRow, Finished, Stopped, BadSubscript}
+use Rattle.walker_arrays.specs.declared.Work.{Work}
 
--- ── the arrays as lists, the last element first ──
+-- ── the things to do ──
 
-unfoldable pub piled : {A : Type 0} → (ℕ → A) → List ℕ → ℕ → List A
-piled f a zero = []
-piled f a (suc n) = f (slice_index a n) ∷ piled f a n
+-- a thing to do, as the table's run has it
+abbrev pub item : Item → run.Item
+item (Begin r) = run.begin r
+item (WorkMonadic r) = run.work₁ r
+item (WorkDiadic r) = run.work₂ r
+item (Check r) = run.check r
+item (Load r) = run.load r
+item (Set r) = run.set_variable r
+item (Store r) = run.store r
+item (Choose r) = run.choose r
+item (Repeat r) = run.repeat r
 
--- a thing to do by its number and its row
-abbrev pub item : ℕ → ℕ → Item
-item k r =
-    pick (k == number.begin) (begin r)
-    (pick (k == number.work₁) (work₁ r)
-    (pick (k == number.work₂) (work₂ r)
-    (pick (k == number.check) (check r)
-    (pick (k == number.load) (load r)
-    (pick (k == number.set_variable) (set_variable r)
-    (pick (k == number.store) (store r)
-    (pick (k == number.choose) (choose r) (repeat r))))))))
-
--- both in one word
-abbrev pub kind_in : ℕ → ℕ
-kind_in n = n % 16
-
-abbrev pub row_in : ℕ → ℕ
-row_in n = n / 16 % 4294967296
-
-abbrev pub to_do : List ℕ → ℕ → List Item
-to_do items height = piled (λ n. item (kind_in n) (row_in n)) items height
-
-abbrev pub stacked : List ℕ → ℕ → List ℕ
-stacked pile depth = piled (λ w. w) pile depth
-
--- one thing more to do, one word more on the pile: the array after it and the new height
-pub record Pushed (items : List ℕ) (height : ℕ) (i : Item) (after : List ℕ) (n : ℕ) : Type 0 where
-  pub list : to_do after n ≡ i ∷ to_do items height
-  pub one : n ≡ height + 1
-  pub same : length after ≡ length items
-
-pub record Put (pile : List ℕ) (depth w : ℕ) (after : List ℕ) (n : ℕ) : Type 0 where
-  pub list : stacked after n ≡ w ∷ stacked pile depth
-  pub one : n ≡ depth + 1
-  pub same : length after ≡ length pile
+abbrev pub to_do : List Item → List run.Item
+to_do items = map item items
 
 -- ── the point that they come to ──
 
-abbrev pub control : ℕ → ℕ → ℕ → ℕ → ℕ → Control
-control mode next height depth total = record { mode = mode; next = next; height = height; depth = depth; total = total }
-
-abbrev pub end_of : ℕ → End
-end_of mode = pick (mode == number.finished) finish (pick (mode == number.stopped) stopped bad_subscript)
-
 -- what is left to do between two rows is still to be done
-abbrev pub comes_to : List ℕ → Control → List ℕ → List ℕ → List ℕ → List Access → State
-comes_to t c items pile d l =
-    pick (c.mode == number.settling) (settle t (to_do items c.height) d l (stacked pile c.depth))
-    (pick (c.mode == number.at_row) (next d l c.next (to_do items c.height) (stacked pile c.depth))
-    (ended d l (end_of c.mode)))
+abbrev pub comes_to : List ℕ → Mode → List Item → List ℕ → List ℕ → List Access → State
+comes_to t Settling items pile d l = settle t (to_do items) d l pile
+comes_to t (AtRow r) items pile d l = next d l r (to_do items) pile
+comes_to t Finished items pile d l = ended d l source.finish
+comes_to t Stopped items pile d l = ended d l source.stopped
+comes_to t BadSubscript items pile d l = ended d l source.bad_subscript
 
 -- ── accesses ──
+
+-- an access that was made, as the access list has it
+abbrev pub kind_of : Kind → access.Kind
+kind_of Loading = access.load
+kind_of Storing = access.store
+
+abbrev pub made : Made → Access
+made a = record { kind = kind_of a.kind; offset = a.offset; old = a.old; new = a.new }
 
 -- numbers of accesses have 64 bits, offsets 32
 pub record Small (l : List Access) : Type 0 where
@@ -83,72 +68,22 @@ pub record Listed (first : ℕ) (old buffer : List ℕ) (total : ℕ) (l : List 
 
 -- ── all of it ──
 
+abbrev pub worked : List Item → List ℕ → Listing → Work
+worked items pile listing = record { items = items; pile = pile; listing = listing }
+
 -- what the walker has come to, the buffer being `old` at first; an access list that is too long for its numbers is not looked at: no walk has one
-pub record Shows (t : List ℕ) (first : ℕ) (old : List ℕ) (c : Control) (items pile words buffer : List ℕ) (x : State) : Type 0 where
+pub record Shows (t : List ℕ) (first : ℕ) (old : List ℕ) (m : Mode) (w : Work) (words buffer : List ℕ) (x : State) : Type 0 where
   pub trace : List Access
-  pub point : comes_to t c items pile words trace ≡ x
-  pub listed : Small trace → Listed first old buffer c.total trace
-  pub high : c.height ≤ length items
-  pub deep : c.depth ≤ length pile
-  pub some : 0 < length pile
+  pub point : comes_to t m w.items w.pile words trace ≡ x
+  pub from : w.listing.first ≡ first
+  pub listed : Small trace → Listed first old buffer w.listing.total trace
 
 -- the same where one thing to do was taken off the list
-pub record Faces (t : List ℕ) (first : ℕ) (old : List ℕ) (i : Item) (c : Control) (items pile words buffer : List ℕ) (x : State) : Type 0 where
+pub record Faces (t : List ℕ) (first : ℕ) (old : List ℕ) (i : run.Item) (w : Work) (words buffer : List ℕ) (x : State) : Type 0 where
   pub trace : List Access
-  pub point : settle t (i ∷ to_do items c.height) words trace (stacked pile c.depth) ≡ x
-  pub listed : Small trace → Listed first old buffer c.total trace
-  pub high : c.height < length items
-  pub deep : c.depth ≤ length pile
-  pub some : 0 < length pile
-
--- ── laws of the arrays ──
-
-module _ {A : Type 0} (f : ℕ → A) where
-  piled_kept : (a : List ℕ) (i v n : ℕ) → n ≤ i → piled f (slice_set a i v) n ≡ piled f a n
-  unfolding piled
-  piled_kept a i v zero h = refl
-  piled_kept a i v (suc n) h = ap₂ (λ (x : ℕ) (l : List A). f x ∷ l) (get_or-set_other a i n v 0 (omega arith)) (piled_kept a i v n (omega arith))
-
-  -- one more
-  pub piled_more : (a : List ℕ) (v n : ℕ) → n < length a → piled f (slice_set a n v) (suc n) ≡ f v ∷ piled f a n
-  unfolding piled
-  piled_more a v n h = ap₂ (λ (x : ℕ) (l : List A). f x ∷ l) (get_or-set_same a n v 0 h) (piled_kept a n v n (omega arith))
-
-  pub piled_length : (a : List ℕ) (n : ℕ) → length (piled f a n) ≡ n
-  unfolding piled
-  piled_length a zero = refl
-  piled_length a (suc n) = ap suc (piled_length a n)
-
--- the pile without its top
-pub stacked_rest : (a : List ℕ) (n : ℕ) → stacked a (n - 1) ≡ rest (stacked a n)
-unfolding piled
-stacked_rest a zero = refl
-stacked_rest a (suc n) = let e : suc n - 1 ≡ n = omega arith in ap (stacked a) e
-
-pub stacked_top : (a : List ℕ) (n : ℕ) → 0 < n → slice_index a (n - 1) ≡ top (stacked a n)
-unfolding piled
-stacked_top a zero h = absurd (omega arith)
-stacked_top a (suc n) h = let e : suc n - 1 ≡ n = omega arith in ap (λ (i : ℕ). slice_index a i) e
-
--- a thing to do and its row come back from one word
-pub packed : (k r : ℕ) → k < 16 → r < 4294967296 → item (kind_in (16 * r + k)) (row_in (16 * r + k)) ≡ item k r
-packed k r h b =
-    let e : (16 * r + k) % 16 ≡ k = omega arith in
-    let q : (16 * r + k) / 16 ≡ r = omega arith in
-    let m : r % 4294967296 ≡ r = omega arith in
-    ap₂ item e (ap (λ (n : ℕ). n % 4294967296) q ∙ m)
-
-pub pushed : (items : List ℕ) (height k r : ℕ) → height < length items → k < 16 → r < 4294967296 → Pushed items height (item k r) (slice_set items height (16 * r + k % 16)) (height + 1)
-pushed items height k r h b c =
-    let z : k % 16 ≡ k = omega arith in
-    record {
-      list = rw (z, add-one) (piled_more (λ n. item (kind_in n) (row_in n)) items (16 * r + k) height h ∙ ap (λ (i : Item). i ∷ to_do items height) (packed k r b c));
-      one = refl;
-      same = length-set items height (16 * r + k % 16);
-    }
-
-pub one_put : (pile : List ℕ) (depth w : ℕ) → depth < length pile → Put pile depth w (slice_set pile depth w) (depth + 1)
-one_put pile depth w h = record { list = rw add-one (piled_more (λ n. n) pile w depth h); one = refl; same = length-set pile depth w }
+  pub point : settle t (i ∷ to_do w.items) words trace w.pile ≡ x
+  pub from : w.listing.first ≡ first
+  pub listed : Small trace → Listed first old buffer w.listing.total trace
 
 -- ── laws of the accesses ──
 

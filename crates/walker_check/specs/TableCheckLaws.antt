@@ -1,5 +1,5 @@
 -- The check of a table, row by row and test by test. Laws; rests on TableCheck.
-use Rattle.std.specs.Prelude.{◌≡◌, Bool, true, false, ◌&&◌, List, length}
+use Rattle.std.specs.Prelude.{◌≡◌, Bool, true, false, ◌&&◌, List, length, Some, None}
 use Rattle.std.proofs.Math.Path.{refl, sym}
 use Rattle.std.proofs.Common.{ap, ◌∙◌, arith, add-one}
 use Rattle.std.proofs.Math.Bool.{and-false}
@@ -16,7 +16,6 @@ use Rattle.x_program.specs.Table.{word, row_in}
 use Rattle.x_program.specs.ValidTable.{shape, data_before, declared_in, row_fits, rows_fit, rows_in, data_in, valid}
 use Rattle.x_program.proofs.ValidTableLaws.{row_words_fit}
 use Rattle.x_program.specs.declared.table.Row.{Row}
-use Rattle.walker_check.specs.declared.Checked.TheVariants.{Refused, Data}
 use Rattle.walker_check.specs.TableCheck.{checked, words_fit, words_of, counted, ends_in_process}
 
 -- a row that fits declares at most 8,192 words
@@ -57,7 +56,7 @@ module _ (t : List ℕ) (count r : ℕ) (g : Counting t count r) (w : Row) (is :
       (λ _ z. let q : r ≡ n = omega (arith, ltb-false r n z) in rw (← q, g.fit, e) refl)
       refl
 
-  pub refuses : (n : ℕ) → r < n → words_fit t r count w ≡ false → Refused ≡ counted t n
+  pub refuses : (n : ℕ) → r < n → words_fit t r count w ≡ false → None ≡ counted t n
   unfolding counted
   refuses n h e = rw (refuse_more n h (sym row_tested ∙ e)) refl
 
@@ -73,62 +72,62 @@ module _ (t : List ℕ) (count r : ℕ) (g : Counting t count r) (w : Row) (is :
     few = omega (arith, g.few, words_few e);
   }
 
-pub all_counted : (t : List ℕ) (count r n : ℕ) → Counting t count r → r ≡ n → Data count ≡ counted t n
+pub all_counted : (t : List ℕ) (count r n : ℕ) → Counting t count r → r ≡ n → Some count ≡ counted t n
 unfolding counted
 all_counted t count r n g e = rw (← e, g.fit, g.words) refl
 
 -- a refusal, or so many words, by a test
-none_of : (b : Bool) (m : ℕ) → pick b (Data m) Refused ≡ Refused → b ≡ false
+none_of : (b : Bool) (m : ℕ) → pick b (Some m) None ≡ None → b ≡ false
 none_of true m e = let z : ◌≡◌ {A = ℕ} 0 1 = cc in absurd (omega arith)
 none_of false m e = refl
 
-all_of : (b : Bool) (m n : ℕ) → pick b (Data m) Refused ≡ Data n → (b ≡ true) × (n ≡ m)
+all_of : (b : Bool) (m n : ℕ) → pick b (Some m) None ≡ Some n → (b ≡ true) × (n ≡ m)
 all_of true m n e = (refl, cc)
 all_of false m n e = let z : ◌≡◌ {A = ℕ} 0 1 = cc in absurd (omega arith)
 
 -- the whole table, test by test
 module _ (t : List ℕ) where
-  pub part_row : ¬ (length t % row_words ≡ 0) → Refused ≡ checked t
+  pub part_row : ¬ (length t % row_words ≡ 0) → None ≡ checked t
   unfolding checked valid
   part_row h = rw (ne_eqb (length t % row_words) 0 h)
 
-  pub many_rows : 1024 < rows_in t → Refused ≡ checked t
+  pub many_rows : 1024 < rows_in t → None ≡ checked t
   unfolding checked valid
   many_rows h = rw (lt-leb (rows_in t) 1024 h, and-false)
 
-  pub no_process : ends_in_process t (rows_in t) ≡ false → Refused ≡ checked t
+  pub no_process : ends_in_process t (rows_in t) ≡ false → None ≡ checked t
   unfolding checked valid
   no_process e = rw (e, and-false, and-false, and-false, and-false)
 
   -- what the loop over the rows answers
-  counted_none : counted t (rows_in t) ≡ Refused → rows_fit t (rows_in t) ≡ false
+  counted_none : counted t (rows_in t) ≡ None → rows_fit t (rows_in t) ≡ false
   unfolding counted
   counted_none e = none_of (rows_fit t (rows_in t)) (data_in t) e
 
-  counted_all : (n : ℕ) → counted t (rows_in t) ≡ Data n → (rows_fit t (rows_in t) ≡ true) × (n ≡ data_in t)
+  counted_all : (n : ℕ) → counted t (rows_in t) ≡ Some n → (rows_fit t (rows_in t) ≡ true) × (n ≡ data_in t)
   unfolding counted
   counted_all n e = all_of (rows_fit t (rows_in t)) (data_in t) n e
 
-  pub bad_row : counted t (rows_in t) ≡ Refused → Refused ≡ checked t
+  pub bad_row : counted t (rows_in t) ≡ None → None ≡ checked t
   unfolding checked valid
   bad_row e = rw (counted_none e, and-false, and-false)
 
-  pub much_data : (n : ℕ) → counted t (rows_in t) ≡ Data n → 8192 < n → Refused ≡ checked t
+  pub much_data : (n : ℕ) → counted t (rows_in t) ≡ Some n → 8192 < n → None ≡ checked t
   unfolding checked valid
   much_data n e h = rw (lt-leb (data_in t) 8192 (omega (arith, (counted_all n e).1)), and-false, and-false, and-false)
 
-  pub all_right : (n : ℕ) → length t % row_words ≡ 0 → rows_in t ≤ 1024 → ends_in_process t (rows_in t) ≡ true → counted t (rows_in t) ≡ Data n → n ≤ 8192 → Data n ≡ checked t
+  pub all_right : (n : ℕ) → length t % row_words ≡ 0 → rows_in t ≤ 1024 → ends_in_process t (rows_in t) ≡ true → counted t (rows_in t) ≡ Some n → n ≤ 8192 → Some n ≡ checked t
   unfolding checked valid
   all_right n a b c e d =
       let k = counted_all n e in
-      rw (eq-eqb (length t % row_words) 0 a, le-leb (rows_in t) 1024 b, k.0, le-leb (data_in t) 8192 (omega (arith, k.1)), c) (ap Data k.1)
+      rw (eq-eqb (length t % row_words) 0 a, le-leb (rows_in t) 1024 b, k.0, le-leb (data_in t) 8192 (omega (arith, k.1)), c) (ap Some k.1)
 
   -- ── what an answer says of the table ──
 
-  pub checked_refused : checked t ≡ Refused → valid t ≡ false
+  pub checked_refused : checked t ≡ None → valid t ≡ false
   unfolding checked
   checked_refused e = none_of (valid t) (data_in t) e
 
-  pub checked_valid : (n : ℕ) → checked t ≡ Data n → (valid t ≡ true) × (n ≡ data_in t)
+  pub checked_valid : (n : ℕ) → checked t ≡ Some n → (valid t ≡ true) × (n ≡ data_in t)
   unfolding checked
   checked_valid n e = all_of (valid t) (data_in t) n e

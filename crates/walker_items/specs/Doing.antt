@@ -1,195 +1,147 @@
--- What the walker does with each thing to do is what the table's run does with it. Laws; rests on Working.
-use Rattle.std.specs.Prelude.{◌≡◌, Bool, ℕ, suc, ◌+◌, ◌-◌, ◌≤◌, ◌<◌, length, set, eqb}
+-- What the walker does with each thing to do is what the table's run does with it. Laws; rests on WorkingArrays.
+use Rattle.std.specs.Prelude.{◌≡◌, Bool, ℕ, suc, ◌+◌, ◌≤◌, ◌<◌, length, set, eqb, ltb, Option, Some, None}
 use Rattle.std.proofs.Math.Path.{refl, ap, ap₂}
-use Rattle.std.proofs.Common.{sym, subst, ◌∙◌, arith, eq-eqb, ne_eqb, lt-ltb, le-ltb, eqb-true}
+use Rattle.std.proofs.Common.{sym, ◌∙◌, arith, eq-eqb, ne_eqb}
 use mathlib.Core.List.{List, [], ◌∷◌, ◌++◌}
 use Rattle.std.proofs.Math.ListN.{get_or}
+use Rattle.std.proofs.Math.Bool.{true, false}
 use Rattle.arm_word.specs.Choice.{pick}
-use Rattle.arm_word.specs.ChoiceLaws.{by_test}
 use Rattle.arm_word.specs.Access.{Access, loaded, stored}
 use Rattle.x_program.specs.Table.{word, monadic_of, diadic_of}
 use Rattle.x_meaning.specs.Operators.{work_monadic, work_diadic}
 use Rattle.x_meaning.specs.SourceRun.{top, rest}
-use Rattle.x_meaning.specs.TableRun.{Item, begin, work₁, work₂, check, load, set_variable, store, choose, repeat, State, next, offset_of, length_of, settle}
-use Rattle.walker_arrays.specs.WalkNumbers as number
-use Rattle.walker_arrays.specs.WorkingArrays.{piled, item, kind_in, row_in, to_do, stacked, control, Small, Listed, Pushed, Put, Shows, Faces, stacked_rest}
-use Rattle.walker_arrays.specs.declared.Control.{Control}
+use Rattle.x_meaning.specs.TableRun as run
+use Rattle.x_meaning.specs.TableRun.{State, next, offset_of, length_of, settle}
+use Rattle.walker_arrays.specs.Stacks as stack
+use Rattle.walker_arrays.specs.WorkingArrays.{item, to_do, comes_to, worked, Small, Listed, Shows, Faces}
+use Rattle.walker_arrays.specs.declared.access.Listing.{Listing}
+use Rattle.walker_arrays.specs.declared.item.Item.{Item}
+use Rattle.walker_arrays.specs.declared.item.Item.TheVariants.{Begin}
+use Rattle.walker_arrays.specs.declared.mode.Mode.{Mode}
+use Rattle.walker_arrays.specs.declared.mode.Mode.TheVariants.{Settling, AtRow, Finished, Stopped, BadSubscript}
+use Rattle.walker_arrays.specs.declared.Work.{Work}
 
-module _ {t : List ℕ} {first : ℕ} {old : List ℕ} {c : Control} {items pile words buffer : List ℕ} {x : State} where
-  -- on, between two rows, with another pile, other words and accesses
-  goes_on : {i : Item} {after : List ℕ} {words' buffer' : List ℕ} {depth total : ℕ} (l : List Access) (s : List ℕ) → Faces t first old i c items pile words buffer x
-      → stacked after depth ≡ s → settle t (to_do items c.height) words' l s ≡ x → (Small l → Listed first old buffer' total l) → depth ≤ length after → length after ≡ length pile
-      → Shows t first old (control number.settling 0 c.height depth total) items after words' buffer' x
-  goes_on {words' = words'} l s f e p q d k = record {
-    trace = l;
-    point = ap (settle t (to_do items c.height) words' l) e ∙ p;
-    listed = q;
-    high = omega (arith, f.high);
-    deep = d;
-    some = omega (arith, f.some, k);
-  }
+module _ {t : List ℕ} {first : ℕ} {old : List ℕ} {w : Work} {words buffer : List ℕ} {x : State} where
+  -- on, at a mode, with another pile and the same accesses
+  goes_on : {i : run.Item} {m : Mode} {items : List Item} {pile words' : List ℕ} (f : Faces t first old i w words buffer x)
+      → comes_to t m items pile words' f.trace ≡ x → Shows t first old m (worked items pile w.listing) words' buffer x
+  goes_on f e = record { trace = f.trace; point = e; from = f.from; listed = f.listed }
 
   -- a word in the place of the topmost n
-  pub works₁ : {r : ℕ} {after : List ℕ} {depth w : ℕ} → Faces t first old (work₁ r) c items pile words buffer x
-      → w ≡ work_monadic (monadic_of (word t r 1)) (top (stacked pile c.depth)) → Put pile (c.depth - 1) w after depth
-      → Shows t first old (control number.settling 0 c.height depth c.total) items after words buffer x
+  pub works₁ : {r : ℕ} {pile : List ℕ} → Faces t first old (run.work₁ r) w words buffer x
+      → pile ≡ work_monadic (monadic_of (word t r 1)) (top w.pile) ∷ rest w.pile → Shows t first old Settling (worked w.items pile w.listing) words buffer x
   unfolding settle
-  works₁ {w = w} f e p = goes_on f.trace _ f (p.list ∙ ap₂ (λ (v : ℕ) (s : List ℕ). v ∷ s) e (stacked_rest pile c.depth)) f.point f.listed (omega (arith, p.one, p.same, f.deep, f.some)) p.same
+  works₁ f e = goes_on f (ap (settle t (to_do w.items) words f.trace) e ∙ f.point)
 
-  pub works₂ : {r : ℕ} {after : List ℕ} {depth w : ℕ} → Faces t first old (work₂ r) c items pile words buffer x
-      → w ≡ work_diadic (diadic_of (word t r 1)) (top (stacked pile (c.depth - 1))) (top (stacked pile c.depth)) → Put pile (c.depth - 1 - 1) w after depth
-      → Shows t first old (control number.settling 0 c.height depth c.total) items after words buffer x
+  pub works₂ : {r : ℕ} {pile : List ℕ} → Faces t first old (run.work₂ r) w words buffer x
+      → pile ≡ work_diadic (diadic_of (word t r 1)) (top (rest w.pile)) (top w.pile) ∷ rest (rest w.pile) → Shows t first old Settling (worked w.items pile w.listing) words buffer x
   unfolding settle
-  works₂ {r} {w = w} f e p =
-      let s = stacked pile c.depth in
-      let b = stacked_rest pile c.depth in
-      goes_on f.trace _ f
-      (p.list ∙ ap₂ (λ (v : ℕ) (z : List ℕ). v ∷ z) (e ∙ ap (λ (z : List ℕ). work_diadic (diadic_of (word t r 1)) (top z) (top s)) b) (stacked_rest pile (c.depth - 1) ∙ ap rest b))
-      f.point f.listed (omega (arith, p.one, p.same, f.deep, f.some)) p.same
+  works₂ f e = goes_on f (ap (settle t (to_do w.items) words f.trace) e ∙ f.point)
 
-  pub checks : {r : ℕ} → Faces t first old (check r) c items pile words buffer x → top (stacked pile c.depth) < length_of t r
-      → Shows t first old (control number.settling 0 c.height c.depth c.total) items pile words buffer x
+  -- a subscript, by its test
+  pub checks : {r : ℕ} {m : Mode} → Faces t first old (run.check r) w words buffer x → m ≡ pick (ltb (top w.pile) (length_of t r)) Settling BadSubscript
+      → Shows t first old m w words buffer x
   unfolding settle
-  checks {r} f h = goes_on f.trace _ f refl (rw (lt-ltb (top (stacked pile c.depth)) (length_of t r) h) at f.point) f.listed f.deep refl
+  checks {r} f e = goes_on f (ap (λ (m : Mode). comes_to t m w.items w.pile words f.trace) e ∙ by (ltb (top w.pile) (length_of t r)) ∙ f.point)
+    where
+      by : (b : Bool)
+          → comes_to t (pick b Settling BadSubscript) w.items w.pile words f.trace
+          ≡ pick b (settle t (to_do w.items) words f.trace w.pile) (comes_to t BadSubscript w.items w.pile words f.trace)
+      by true = refl
+      by false = refl
 
-  pub fails : {r : ℕ} → Faces t first old (check r) c items pile words buffer x → length_of t r ≤ top (stacked pile c.depth)
-      → Shows t first old (control number.bad_subscript 0 0 0 c.total) items pile words buffer x
+  pub loads : {r k v : ℕ} {pile buffer' : List ℕ} {g : Listing} → Faces t first old (run.load r) w words buffer x
+      → k ≡ offset_of t r + top w.pile → v ≡ get_or words k 0 → g.first ≡ w.listing.first
+      → ((l : List Access) → (Small l → Listed w.listing.first old buffer w.listing.total l) → Small (l ++ loaded k v ∷ []) → Listed w.listing.first old buffer' g.total (l ++ loaded k v ∷ []))
+      → pile ≡ v ∷ rest w.pile → Shows t first old Settling (worked w.items pile g) words buffer' x
   unfolding settle
-  fails {r} f h = record {
-    trace = f.trace;
-    point = rw (le-ltb (top (stacked pile c.depth)) (length_of t r) h) at f.point;
-    listed = f.listed;
-    high = omega arith;
-    deep = omega arith;
-    some = f.some;
-  }
+  loads {r} {k} {v} f e q h more p =
+      let j = offset_of t r + top w.pile in
+      let u : v ≡ get_or words j 0 = q ∙ ap (λ (n : ℕ). get_or words n 0) e in
+      record {
+        trace = f.trace ++ loaded k v ∷ [];
+        point = (λ i. settle t (to_do w.items) words (f.trace ++ loaded (e i) (u i) ∷ []) ((p ∙ ap (λ (n : ℕ). n ∷ rest w.pile) u) i)) ∙ f.point;
+        from = h ∙ f.from;
+        listed = λ small. rw f.from at (more f.trace (λ s. rw f.from (f.listed s)) small);
+      }
 
-  pub loads : {r : ℕ} {after buffer' : List ℕ} {depth total k w : ℕ} → Faces t first old (load r) c items pile words buffer x
-      → k ≡ offset_of t r + top (stacked pile c.depth) → w ≡ get_or words k 0
-      → ((l : List Access) (a : Access) → a ≡ loaded k w → (Small l → Listed first old buffer c.total l) → Small (l ++ a ∷ []) → Listed first old buffer' total (l ++ a ∷ []))
-      → Put pile (c.depth - 1) w after depth
-      → Shows t first old (control number.settling 0 c.height depth total) items after words buffer' x
+  pub sets : {r : ℕ} {words' pile : List ℕ} → Faces t first old (run.set_variable r) w words buffer x
+      → words' ≡ set words (offset_of t r) (top w.pile) → pile ≡ rest w.pile → Shows t first old Settling (worked w.items pile w.listing) words' buffer x
   unfolding settle
-  loads {r} {k = k} {w = w} f e g q p =
-      let j = offset_of t r + top (stacked pile c.depth) in
-      let v : w ≡ get_or words j 0 = g ∙ ap (λ (n : ℕ). get_or words n 0) e in
-      goes_on (f.trace ++ loaded j (get_or words j 0) ∷ []) _ f (p.list ∙ ap₂ (λ (v : ℕ) (s : List ℕ). v ∷ s) v (stacked_rest pile c.depth)) f.point
-      (q f.trace (loaded j (get_or words j 0)) (sym (ap₂ loaded e v)) f.listed) (omega (arith, p.one, p.same, f.deep, f.some)) p.same
+  sets f q p = goes_on f ((λ i. settle t (to_do w.items) (q i) f.trace (p i)) ∙ f.point)
 
-  pub sets : {r : ℕ} {words' : List ℕ} {depth k w : ℕ} → Faces t first old (set_variable r) c items pile words buffer x
-      → k ≡ offset_of t r → w ≡ top (stacked pile c.depth) → words' ≡ set words k w → depth ≡ c.depth - 1
-      → Shows t first old (control number.settling 0 c.height depth c.total) items pile words' buffer x
+  pub stores : {r k v o : ℕ} {words' pile buffer' : List ℕ} {g : Listing} → Faces t first old (run.store r) w words buffer x
+      → k ≡ offset_of t r + top (rest w.pile) → v ≡ top w.pile → o ≡ get_or words k 0 → g.first ≡ w.listing.first
+      → ((l : List Access) → (Small l → Listed w.listing.first old buffer w.listing.total l) → Small (l ++ stored k o v ∷ []) → Listed w.listing.first old buffer' g.total (l ++ stored k o v ∷ []))
+      → words' ≡ set words k v → pile ≡ rest (rest w.pile) → Shows t first old Settling (worked w.items pile g) words' buffer' x
   unfolding settle
-  sets {r} f e g q d =
-      goes_on f.trace _ f (ap (stacked pile) d ∙ stacked_rest pile c.depth)
-      (ap (λ (m : List ℕ). settle t (to_do items c.height) m f.trace (rest (stacked pile c.depth))) (q ∙ ap₂ (set words) e g) ∙ f.point)
-      f.listed (omega (arith, d, f.deep)) refl
-
-  pub stores : {r : ℕ} {words' buffer' : List ℕ} {depth total k w o : ℕ} → Faces t first old (store r) c items pile words buffer x
-      → k ≡ offset_of t r + top (stacked pile (c.depth - 1)) → w ≡ top (stacked pile c.depth) → o ≡ get_or words k 0
-      → ((l : List Access) (a : Access) → a ≡ stored k o w → (Small l → Listed first old buffer c.total l) → Small (l ++ a ∷ []) → Listed first old buffer' total (l ++ a ∷ []))
-      → words' ≡ set words k w → depth ≡ c.depth - 1 - 1
-      → Shows t first old (control number.settling 0 c.height depth total) items pile words' buffer' x
-  unfolding settle
-  stores {r} {k = k} {w = w} {o = o} f e g u q m d =
-      let s = stacked pile c.depth in
-      let b = stacked_rest pile c.depth in
-      let j = offset_of t r + top (rest s) in
-      let n : k ≡ j = e ∙ ap (λ (z : List ℕ). offset_of t r + top z) b in
-      let v : o ≡ get_or words j 0 = u ∙ ap (λ (i : ℕ). get_or words i 0) n in
-      goes_on (f.trace ++ stored j (get_or words j 0) (top s) ∷ []) _ f (ap (stacked pile) d ∙ stacked_rest pile (c.depth - 1) ∙ ap rest b)
-      (ap (λ (z : List ℕ). settle t (to_do items c.height) z (f.trace ++ stored j (get_or words j 0) (top s) ∷ []) (rest (rest s))) (m ∙ ap₂ (set words) n g) ∙ f.point)
-      (q f.trace (stored j (get_or words j 0) (top s)) (λ i. stored (sym n i) (sym v i) (sym g i)) f.listed) (omega (arith, d, f.deep)) refl
+  stores {r} {k} {v} {o} f e u q h more m p =
+      let j = offset_of t r + top (rest w.pile) in
+      let n : o ≡ get_or words j 0 = q ∙ ap (λ (i : ℕ). get_or words i 0) e in
+      record {
+        trace = f.trace ++ stored k o v ∷ [];
+        point = (λ i. settle t (to_do w.items) ((m ∙ ap₂ (set words) e u) i) (f.trace ++ stored (e i) (n i) (u i) ∷ []) (p i)) ∙ f.point;
+        from = h ∙ f.from;
+        listed = λ small. rw f.from at (more f.trace (λ s. rw f.from (f.listed s)) small);
+      }
 
   -- ── to a row ──
 
-  at_next : {i : Item} {items' : List ℕ} {r depth height : ℕ} (n : ℕ) (d : List Item) (s : List ℕ) (f : Faces t first old i c items pile words buffer x)
-      → r ≡ n → to_do items' height ≡ d → stacked pile depth ≡ s → next words f.trace n d s ≡ x → height ≤ length items' → depth ≤ length pile
-      → Shows t first old (control number.at_row r height depth c.total) items' pile words buffer x
-  at_next n d s f a b e p h k = record { trace = f.trace; point = (λ j. next words f.trace (a j) (b j) (e j)) ∙ p; listed = f.listed; high = h; deep = k; some = f.some }
-
-  pub begins : {r : ℕ} → Faces t first old (begin r) c items pile words buffer x → Shows t first old (control number.at_row r c.height c.depth c.total) items pile words buffer x
+  pub begins : {r : ℕ} → Faces t first old (run.begin r) w words buffer x → Shows t first old (AtRow r) w words buffer x
   unfolding settle
-  begins f = at_next _ _ _ f refl refl refl f.point (omega (arith, f.high)) f.deep
+  begins f = goes_on f f.point
 
-  pub chooses_else : {r n depth : ℕ} → Faces t first old (choose r) c items pile words buffer x → n ≡ word t r 3 → depth ≡ c.depth - 1 → top (stacked pile c.depth) ≡ 0
-      → Shows t first old (control number.at_row n c.height depth c.total) items pile words buffer x
+  -- an if's part, by its test
+  pub chooses : {r : ℕ} {m : Mode} {pile : List ℕ} → Faces t first old (run.choose r) w words buffer x
+      → m ≡ AtRow (pick (eqb (top w.pile) 0) (word t r 3) (word t r 2)) → pile ≡ rest w.pile → Shows t first old m (worked w.items pile w.listing) words buffer x
   unfolding settle
-  chooses_else {r} f e d z =
-      at_next (word t r 3) _ _ f e refl (ap (stacked pile) d ∙ stacked_rest pile c.depth) (rw (eq-eqb (top (stacked pile c.depth)) 0 z) at f.point) (omega (arith, f.high))
-      (omega (arith, d, f.deep))
+  chooses f e p = goes_on f ((λ i. comes_to t (e i) w.items (p i) words f.trace) ∙ f.point)
 
-  pub chooses_then : {r n depth : ℕ} → Faces t first old (choose r) c items pile words buffer x → n ≡ word t r 2 → depth ≡ c.depth - 1 → ¬ (top (stacked pile c.depth) ≡ 0)
-      → Shows t first old (control number.at_row n c.height depth c.total) items pile words buffer x
+  pub repeats_no_more : {r : ℕ} {pile : List ℕ} → Faces t first old (run.repeat r) w words buffer x → top w.pile ≡ 0 → pile ≡ rest w.pile
+      → Shows t first old Settling (worked w.items pile w.listing) words buffer x
   unfolding settle
-  chooses_then {r} f e d z =
-      at_next (word t r 2) _ _ f e refl (ap (stacked pile) d ∙ stacked_rest pile c.depth) (rw (ne_eqb (top (stacked pile c.depth)) 0 z) at f.point) (omega (arith, f.high))
-      (omega (arith, d, f.deep))
+  repeats_no_more f z p = goes_on f (ap (settle t (to_do w.items) words f.trace) p ∙ (rw (eq-eqb (top w.pile) 0 z) at f.point))
 
-  pub repeats_no_more : {r depth : ℕ} → Faces t first old (repeat r) c items pile words buffer x → depth ≡ c.depth - 1 → top (stacked pile c.depth) ≡ 0
-      → Shows t first old (control number.settling 0 c.height depth c.total) items pile words buffer x
+  pub repeats : {r n : ℕ} {items : List Item} {pile : List ℕ} → Faces t first old (run.repeat r) w words buffer x → n ≡ word t r 2
+      → ¬ (top w.pile ≡ 0) → pile ≡ rest w.pile → items ≡ Begin r ∷ w.items → Shows t first old (AtRow n) (worked items pile w.listing) words buffer x
   unfolding settle
-  repeats_no_more f d z =
-      goes_on f.trace _ f (ap (stacked pile) d ∙ stacked_rest pile c.depth) (rw (eq-eqb (top (stacked pile c.depth)) 0 z) at f.point) f.listed (omega (arith, d, f.deep)) refl
-
-  pub repeats : {r n height depth : ℕ} {items' : List ℕ} → Faces t first old (repeat r) c items pile words buffer x → n ≡ word t r 2 → depth ≡ c.depth - 1
-      → ¬ (top (stacked pile c.depth) ≡ 0) → Pushed items c.height (begin r) items' height
-      → Shows t first old (control number.at_row n height depth c.total) items' pile words buffer x
-  unfolding settle
-  repeats {r} f e d z p =
-      at_next (word t r 2) _ _ f e p.list (ap (stacked pile) d ∙ stacked_rest pile c.depth) (rw (ne_eqb (top (stacked pile c.depth)) 0 z) at f.point)
-      (omega (arith, p.one, p.same, f.high)) (omega (arith, d, f.deep))
+  repeats f e z p d = goes_on f ((λ i. next words f.trace (e i) (to_do (d i)) (p i)) ∙ (rw (ne_eqb (top w.pile) 0 z) at f.point))
 
   -- ── which thing it is ──
 
-  -- between two rows
-  settles : (s : Shows t first old c items pile words buffer x) → c.mode ≡ number.settling
-      → settle t (to_do items c.height) words s.trace (stacked pile c.depth) ≡ x
-  settles s e = rw e at s.point
-
   -- nothing is left to do
-  pub finishes : Shows t first old c items pile words buffer x → c.mode ≡ number.settling → c.height ≡ 0
-      → Shows t first old (control number.finished 0 0 0 c.total) items pile words buffer x
-  unfolding settle piled
-  finishes s e h = record { trace = s.trace; point = rw h at (settles s e); listed = s.listed; high = omega arith; deep = omega arith; some = s.some }
+  pub finishes : {o : Option Item} {items : List Item} → Shows t first old Settling w words buffer x → o ≡ stack.first w.items → o ≡ None
+      → Shows t first old Finished (worked items w.pile w.listing) words buffer x
+  unfolding settle
+  finishes s e q = record { trace = s.trace; point = (rw (none_left w.items (sym e ∙ q)) at s.point); from = s.from; listed = s.listed }
+    where
+      none_left : (l : List Item) → stack.first l ≡ None → l ≡ []
+      none_left [] e = refl
+      none_left (i ∷ l) e = cc
 
   -- the first thing to do is taken off the list
-  pub faces : (h n : ℕ) → Shows t first old c items pile words buffer x → c.mode ≡ number.settling → c.height ≡ suc h → n ≡ get_or items h 0
-      → Faces t first old (item (kind_in n) (row_in n)) (control number.settling 0 h c.depth c.total) items pile words buffer x
-  unfolding piled
-  faces h n s e k g = rw g (record { trace = s.trace; point = rw k at (settles s e); listed = s.listed; high = omega (arith, s.high, k); deep = s.deep; some = s.some })
-
-  -- by its number
-  pub as_item : {k n : ℕ} (r : ℕ) → k ≡ n → Faces t first old (item k r) c items pile words buffer x → Faces t first old (item n r) c items pile words buffer x
-  as_item r e f = subst (λ (m : ℕ). Faces t first old (item m r) c items pile words buffer x) e f
-
-  -- the last of them
-  pub as_repeat : {k : ℕ} (r : ℕ) → number.choose < k → Faces t first old (item k r) c items pile words buffer x → Faces t first old (repeat r) c items pile words buffer x
-  as_repeat {k} r h f =
-      rw (
-        ne_eqb k number.begin (λ e. omega (arith, e)),
-        ne_eqb k number.work₁ (λ e. omega (arith, e)),
-        ne_eqb k number.work₂ (λ e. omega (arith, e)),
-        ne_eqb k number.check (λ e. omega (arith, e)),
-        ne_eqb k number.load (λ e. omega (arith, e)),
-        ne_eqb k number.set_variable (λ e. omega (arith, e)),
-        ne_eqb k number.store (λ e. omega (arith, e)),
-        ne_eqb k number.choose (λ e. omega (arith, e)),
-      ) at f
-
--- a number that isn't n is past it
-pub past : (k n : ℕ) → n ≤ k → ¬ (k ≡ n) → suc n ≤ k
-past k n h e = omega arith
+  pub faces : {i j : Item} {o : Option Item} {items : List Item} → Shows t first old Settling w words buffer x
+      → o ≡ stack.first w.items → o ≡ Some j → j ≡ i → items ≡ stack.others w.items → Faces t first old (item i) (worked items w.pile w.listing) words buffer x
+  faces {i} {items = items} s e q h p = record { trace = s.trace; point = (rw (taken w.items (sym e ∙ q ∙ ap Some h) p) at s.point); from = s.from; listed = s.listed }
+    where
+      taken : (l : List Item) → stack.first l ≡ Some i → items ≡ stack.others l → l ≡ i ∷ items
+      taken [] e p = cc
+      taken (j ∷ l) e p = cc
 
 pub exactly : (k n : ℕ) → k < suc n → n ≤ k → k ≡ n
 exactly k n l h = omega arith
 
 -- what falls between two rows
-abbrev pub unsettled : Control → ℕ
-unsettled c = pick (eqb c.mode number.settling) (suc c.height) 0
+abbrev pub unsettled : Mode → Work → ℕ
+unsettled Settling w = suc (length w.items)
+unsettled (AtRow r) w = 0
+unsettled Finished w = 0
+unsettled Stopped w = 0
+unsettled BadSubscript w = 0
 
-pub falls : (c z : Control) → c.mode ≡ number.settling → (z.mode ≡ number.settling → z.height < c.height) → unsettled z < unsettled c
-falls c z e h =
-    rw e (by_test (λ (b : Bool). pick b (suc z.height) 0 < suc c.height) (eqb z.mode number.settling)
-    (λ t. omega (arith, h (eqb-true z.mode number.settling t)))
-    (λ _. omega arith))
+pub falls : (m : Mode) (w z : Work) → (m ≡ Settling → length z.items < length w.items) → unsettled m z < unsettled Settling w
+falls Settling w z h = omega (arith, h refl)
+falls (AtRow r) w z h = omega arith
+falls Finished w z h = omega arith
+falls Stopped w z h = omega arith
+falls BadSubscript w z h = omega arith

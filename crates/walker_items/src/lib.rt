@@ -1,45 +1,46 @@
-// What a walk does between two rows: the first thing to do, by its number.
+// What a walk does between two rows: the first thing to do.
 #![tactic(auto)]
 
-ghost use Rattle.std.specs.Prelude.{◌≡◌, List, ℕ, ◌<◌, ◌≤◌};
+ghost use Rattle.std.specs.Prelude.{◌≡◌, ◌∷◌, List, ℕ, ◌<◌, ◌+◌, length, set, ltb, eqb};
+ghost use Rattle.arm_word.specs.Choice.{pick};
 ghost use Rattle.x_program.specs.Table as tables;
+ghost use Rattle.x_program.specs.Table.{monadic_of, diadic_of};
+ghost use Rattle.x_meaning.specs.Operators as operators;
+ghost use Rattle.x_meaning.specs.SourceRun.{top, rest};
 ghost use Rattle.x_meaning.specs.TableRun as meaning;
 ghost use Rattle.x_meaning.specs.TableRun.{State};
-ghost use Rattle.walker_arrays.specs.WalkNumbers as number;
-ghost use Rattle.walker_arrays.specs.WorkingArrays as working;
+ghost use Rattle.walker_arrays.specs.declared.item.Item.TheVariants as item;
+ghost use Rattle.walker_arrays.specs.declared.mode.Mode.TheVariants.{Settling, AtRow, BadSubscript};
 ghost use Rattle.walker_arrays.specs.WorkingArrays.{Shows, Faces};
 
 use arm_word::word_at;
-use walker_arrays::{
-    Control, access, at_row, ended, item, item_at, list, mode, one_less, push, put, set_word,
-    settling, top,
-};
+use walker_arrays::access::{Access, Kind};
+use walker_arrays::item::Item;
+use walker_arrays::mode::Mode;
+use walker_arrays::{Pile, Work, set_word, take, top};
 use walker_operators::{diadic, monadic};
 use x_program::table::{Row, row_at};
 
 // ---- one thing to do ----
 
-fn work_monadic(table: &[u32], pile: &mut [u32], c: Control, r: u32) -> Control
-    ensures by_index { (first : ℕ) (old items words buffer : List ℕ) (x : State) → Faces table.now first old (meaning.work₁ r) c items pile.old words buffer x → Shows table.now first old result items pile.new words buffer x }
-    ensures lower { result.height ≤ c.height }
+fn work_monadic(table: &[u32], pile: &mut Pile, r: u32) -> Mode
+    ensures next { result ≡ Settling }
+    ensures pile { pile.new ≡ operators.work_monadic (monadic_of (tables.word table.now r 1)) (top pile.old) ∷ rest pile.old }
 {
-    let w = monadic(row_at(table, r as usize).a, top(pile, c.depth));
-    let depth = put(pile, one_less(c.depth), w);
-    settling(c.height, depth, c.total)
+    let x = take(pile);
+    pile.push(monadic(row_at(table, r as usize).a, x));
+    Mode::Settling
 }
 
-fn work_diadic(table: &[u32], pile: &mut [u32], c: Control, r: u32) -> Control
-    ensures by_index { (first : ℕ) (old items words buffer : List ℕ) (x : State) → Faces table.now first old (meaning.work₂ r) c items pile.old words buffer x → Shows table.now first old result items pile.new words buffer x }
-    ensures lower { result.height ≤ c.height }
+fn work_diadic(table: &[u32], pile: &mut Pile, r: u32) -> Mode
+    ensures next { result ≡ Settling }
+    ensures pile { pile.new
+        ≡ operators.work_diadic (diadic_of (tables.word table.now r 1)) (top (rest pile.old)) (top pile.old) ∷ rest (rest pile.old) }
 {
-    let below = one_less(c.depth);
-    let w = diadic(
-        row_at(table, r as usize).a,
-        top(pile, below),
-        top(pile, c.depth),
-    );
-    let depth = put(pile, one_less(below), w);
-    settling(c.height, depth, c.total)
+    let y = take(pile);
+    let x = take(pile);
+    pile.push(diadic(row_at(table, r as usize).a, x, y));
+    Mode::Settling
 }
 
 // The declaration that row r names.
@@ -49,153 +50,102 @@ fn declaration(table: &[u32], r: u32) -> Row
     row_at(table, row_at(table, r as usize).a as usize)
 }
 
-fn check_subscript(table: &[u32], pile: &[u32], c: Control, r: u32) -> Control
-    ensures by_index { (first : ℕ) (old items words buffer : List ℕ) (x : State) → Faces table.now first old (meaning.check r) c items pile.now words buffer x → Shows table.now first old result items pile.now words buffer x }
-    ensures lower { result.height ≤ c.height }
+fn check_subscript(table: &[u32], pile: &Pile, r: u32) -> Mode
+    ensures { result ≡ pick (ltb (top pile.now) (meaning.length_of table.now r)) Settling BadSubscript }
 {
-    if top(pile, c.depth) < declaration(table, r).b {
-        return settling(c.height, c.depth, c.total);
+    if top(pile) < declaration(table, r).b {
+        Mode::Settling
+    } else {
+        Mode::BadSubscript
     }
-    ended(mode::BAD_SUBSCRIPT, c.total)
 }
 
-fn load(
-    table: &[u32],
-    words: &[u32],
-    accesses: &mut [u32],
-    first: u64,
-    pile: &mut [u32],
-    c: Control,
-    r: u32,
-) -> Control
-    ensures by_index { (old items : List ℕ) (x : State) → Faces table.now first old (meaning.load r) c items pile.old words.now accesses.old x → Shows table.now first old result items pile.new words.now accesses.new x }
-    ensures lower { result.height ≤ c.height }
+fn load(table: &[u32], words: &[u32], accesses: &mut [u32], work: &mut Work, r: u32) -> Mode
+    ensures shown { (first : ℕ) (old : List ℕ) (x : State) → Faces table.now first old (meaning.load r) work.old words.now accesses.old x
+        → Shows table.now first old result work.new words.now accesses.new x }
+    ensures next { result ≡ Settling }
+    ensures items { work.new.items ≡ work.old.items }
 {
-    let k = declaration(table, r).a as usize + top(pile, c.depth) as usize;
-    let w = word_at(words, k);
-    let total = list(accesses, first, c.total, access::LOAD, k, w, w);
-    let depth = put(pile, one_less(c.depth), w);
-    settling(c.height, depth, total)
+    let offset = declaration(table, r).a as usize + take(&mut work.pile) as usize;
+    let w = word_at(words, offset);
+    let loaded = Access {
+        kind: Kind::Load,
+        offset,
+        old: w,
+        new: w,
+    };
+    work.listing.list(accesses, loaded);
+    work.pile.push(w);
+    Mode::Settling
 }
 
-fn set_variable(table: &[u32], words: &mut [u32], pile: &[u32], c: Control, r: u32) -> Control
-    ensures by_index { (first : ℕ) (old items buffer : List ℕ) (x : State) → Faces table.now first old (meaning.set_variable r) c items pile.now words.old buffer x → Shows table.now first old result items pile.now words.new buffer x }
-    ensures lower { result.height ≤ c.height }
+fn set_variable(table: &[u32], words: &mut [u32], pile: &mut Pile, r: u32) -> Mode
+    ensures next { result ≡ Settling }
+    ensures words { words.new ≡ set words.old (meaning.offset_of table.now r) (top pile.old) }
+    ensures pile { pile.new ≡ rest pile.old }
 {
-    set_word(words, declaration(table, r).a as usize, top(pile, c.depth));
-    settling(c.height, one_less(c.depth), c.total)
+    let w = take(pile);
+    set_word(words, declaration(table, r).a as usize, w);
+    Mode::Settling
 }
 
-fn store(
-    table: &[u32],
-    words: &mut [u32],
-    accesses: &mut [u32],
-    first: u64,
-    pile: &[u32],
-    c: Control,
-    r: u32,
-) -> Control
-    ensures by_index { (old items : List ℕ) (x : State) → Faces table.now first old (meaning.store r) c items pile.now words.old accesses.old x → Shows table.now first old result items pile.now words.new accesses.new x }
-    ensures lower { result.height ≤ c.height }
+fn store(table: &[u32], words: &mut [u32], accesses: &mut [u32], work: &mut Work, r: u32) -> Mode
+    ensures shown { (first : ℕ) (old : List ℕ) (x : State) → Faces table.now first old (meaning.store r) work.old words.old accesses.old x
+        → Shows table.now first old result work.new words.new accesses.new x }
+    ensures next { result ≡ Settling }
+    ensures items { work.new.items ≡ work.old.items }
 {
-    let below = one_less(c.depth);
-    let w = top(pile, c.depth);
-    let k = declaration(table, r).a as usize + top(pile, below) as usize;
-    let old = word_at(words, k);
-    let total = list(accesses, first, c.total, access::STORE, k, old, w);
-    set_word(words, k, w);
-    settling(c.height, one_less(below), total)
+    let w = take(&mut work.pile);
+    let offset = declaration(table, r).a as usize + take(&mut work.pile) as usize;
+    let stored = Access {
+        kind: Kind::Store,
+        offset,
+        old: word_at(words, offset),
+        new: w,
+    };
+    work.listing.list(accesses, stored);
+    set_word(words, offset, w);
+    Mode::Settling
 }
 
-fn choose(table: &[u32], pile: &[u32], c: Control, r: u32) -> Control
-    ensures by_index { (first : ℕ) (old items words buffer : List ℕ) (x : State) → Faces table.now first old (meaning.choose r) c items pile.now words buffer x → Shows table.now first old result items pile.now words buffer x }
-    ensures lower { result.height ≤ c.height }
+fn choose(table: &[u32], pile: &mut Pile, r: u32) -> Mode
+    ensures next { result ≡ AtRow (pick (eqb (top pile.old) 0) (tables.word table.now r 3) (tables.word table.now r 2)) }
+    ensures pile { pile.new ≡ rest pile.old }
 {
     let w = row_at(table, r as usize);
-    let below = one_less(c.depth);
-    if top(pile, c.depth) == 0 {
-        return at_row(w.c, c.height, below, c.total);
-    }
-    at_row(w.b, c.height, below, c.total)
+    Mode::AtRow(if take(pile) == 0 { w.c } else { w.b })
 }
 
-fn repeat(table: &[u32], items: &mut [u64], pile: &[u32], c: Control, r: u32) -> Control
-    ensures by_index { (first : ℕ) (old words buffer : List ℕ) (x : State) → Faces table.now first old (meaning.repeat r) c items.old pile.now words buffer x → Shows table.now first old result items.new pile.now words buffer x }
-    ensures lower { result.mode ≡ number.settling → result.height ≤ c.height }
+fn repeat(table: &[u32], work: &mut Work, r: u32) -> Mode
+    ensures shown { (first : ℕ) (old words buffer : List ℕ) (x : State) → length work.old.items < 3072
+        → Faces table.now first old (meaning.repeat r) work.old words buffer x → Shows table.now first old result work.new words buffer x }
+    ensures items { result ≡ Settling → work.new.items ≡ work.old.items }
 {
-    let below = one_less(c.depth);
-    if top(pile, c.depth) == 0 {
-        return settling(c.height, below, c.total);
+    if take(&mut work.pile) == 0 {
+        return Mode::Settling;
     }
-    let height = push(items, c.height, item::BEGIN, r);
-    at_row(row_at(table, r as usize).b, height, below, c.total)
-}
-
-// The thing to do of that number, row r's own, which needs no other to be done after it.
-fn work(
-    table: &[u32],
-    words: &mut [u32],
-    accesses: &mut [u32],
-    first: u64,
-    pile: &mut [u32],
-    c: Control,
-    item: u64,
-    r: u32,
-) -> Control
-    ensures by_index { (old items : List ℕ) (x : State) → item < number.choose → (item ≡ number.begin → ⊥)
-        → Faces table.now first old (working.item item r) c items pile.old words.old accesses.old x
-        → Shows table.now first old result items pile.new words.new accesses.new x }
-    ensures lower { result.height ≤ c.height }
-{
-    if item == item::WORK_MONADIC {
-        return work_monadic(table, pile, c, r);
-    }
-    if item == item::WORK_DIADIC {
-        return work_diadic(table, pile, c, r);
-    }
-    if item == item::CHECK {
-        return check_subscript(table, pile, c, r);
-    }
-    if item == item::LOAD {
-        return load(table, words, accesses, first, pile, c, r);
-    }
-    if item == item::SET {
-        return set_variable(table, words, pile, c, r);
-    }
-    store(table, words, accesses, first, pile, c, r)
+    work.items.push(Item::Begin(r));
+    Mode::AtRow(row_at(table, r as usize).b)
 }
 
 // The first thing to do, if there is one.
-pub fn act(
-    table: &[u32],
-    words: &mut [u32],
-    accesses: &mut [u32],
-    first: u64,
-    items: &mut [u64],
-    pile: &mut [u32],
-    c: Control,
-) -> Control
-    ensures by_index { (old : List ℕ) (x : State) → c.mode ≡ number.settling
-        → Shows table.now first old c items.old pile.old words.old accesses.old x
-        → Shows table.now first old result items.new pile.new words.new accesses.new x }
-    ensures lower { result.mode ≡ number.settling → result.height < c.height }
+pub fn act(table: &[u32], words: &mut [u32], accesses: &mut [u32], work: &mut Work) -> Mode
+    ensures shown { (first : ℕ) (old : List ℕ) (x : State) → Shows table.now first old Settling work.old words.old accesses.old x
+        → Shows table.now first old result work.new words.new accesses.new x }
+    ensures lower { result ≡ Settling → length work.new.items < length work.old.items }
 {
-    if c.height == 0 {
-        return ended(mode::FINISHED, c.total);
+    let Some(item) = work.items.pop() else {
+        return Mode::Finished;
+    };
+    match item {
+        Item::Begin(r) => Mode::AtRow(r),
+        Item::WorkMonadic(r) => work_monadic(table, &mut work.pile, r),
+        Item::WorkDiadic(r) => work_diadic(table, &mut work.pile, r),
+        Item::Check(r) => check_subscript(table, &work.pile, r),
+        Item::Load(r) => load(table, words, accesses, work, r),
+        Item::Set(r) => set_variable(table, words, &mut work.pile, r),
+        Item::Store(r) => store(table, words, accesses, work, r),
+        Item::Choose(r) => choose(table, &mut work.pile, r),
+        Item::Repeat(r) => repeat(table, work, r),
     }
-    let height = c.height - 1;
-    let packed = item_at(items, height);
-    let item = packed % 16;
-    let r = (packed / 16 % 0x1_0000_0000) as u32;
-    let d = settling(height, c.depth, c.total);
-    if item == item::BEGIN {
-        return at_row(r, height, c.depth, c.total);
-    }
-    if item < item::CHOOSE {
-        return work(table, words, accesses, first, pile, d, item, r);
-    }
-    if item == item::CHOOSE {
-        return choose(table, pile, d, r);
-    }
-    repeat(table, items, pile, d, r)
 }

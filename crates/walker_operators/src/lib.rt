@@ -5,7 +5,6 @@ ghost use Rattle.std.specs.Prelude.{◌≡◌};
 ghost use Rattle.arm_word.specs.Word as word;
 ghost use Rattle.x_program.specs.Table.{monadic_of, diadic_of};
 ghost use Rattle.x_meaning.specs.Operators.{work_monadic, work_diadic};
-ghost use Rattle.walker_operators.specs.Comparison.{comparison_of};
 
 use arm_word::{add, complement, low_product, shift_left, shift_right, sub};
 use x_program::operator;
@@ -19,10 +18,10 @@ const TRUE: u32 = 0xFFFF_FFFF;
 pub fn monadic(o: u32, x: u32) -> u32
     ensures { result ≡ work_monadic (monadic_of o) x }
 {
-    if o == operator::NEGATE {
-        return sub(0, x);
+    match o {
+        operator::NEGATE => sub(0, x),
+        _ => complement(x),
     }
-    complement(x)
 }
 
 fn truth(b: bool) -> u32
@@ -32,61 +31,31 @@ fn truth(b: bool) -> u32
 }
 
 // The order of the words as signed numbers.
+#[tactic(auto, unfolding(arm_word::specs::Word::signed_less))]
 fn less(x: u32, y: u32) -> bool
     ensures { result ≡ word.signed_less x y }
 {
     add(x, SIGN) < add(y, SIGN)
 }
 
-// The last six operators.
-fn comparison(o: u32, x: u32, y: u32) -> u32
-    ensures { result ≡ work_diadic (comparison_of o) x y }
-{
-    if o == operator::EQUAL {
-        return truth(x == y);
-    }
-    if o == operator::UNEQUAL {
-        return truth(!(x == y));
-    }
-    if o == operator::LESS {
-        return truth(less(x, y));
-    }
-    if o == operator::AT_MOST {
-        return truth(!less(y, x));
-    }
-    if o == operator::GREATER {
-        return truth(less(y, x));
-    }
-    truth(!less(x, y))
-}
-
 // The diadic operator of number o.
 pub fn diadic(o: u32, x: u32, y: u32) -> u32
     ensures { result ≡ work_diadic (diadic_of o) x y }
 {
-    if o == operator::PLUS {
-        return add(x, y);
+    match o {
+        operator::PLUS => add(x, y),
+        operator::MINUS => sub(x, y),
+        operator::TIMES => low_product(x, y),
+        operator::AND => x & y,
+        operator::OR => x | y,
+        operator::XOR => x ^ y,
+        operator::SHIFT_RIGHT => shift_right(x, y),
+        operator::SHIFT_LEFT => shift_left(x, y),
+        operator::EQUAL => truth(x == y),
+        operator::UNEQUAL => truth(x != y),
+        operator::LESS => truth(less(x, y)),
+        operator::AT_MOST => truth(!less(y, x)),
+        operator::GREATER => truth(less(y, x)),
+        _ => truth(!less(x, y)),
     }
-    if o == operator::MINUS {
-        return sub(x, y);
-    }
-    if o == operator::TIMES {
-        return low_product(x, y);
-    }
-    if o == operator::AND {
-        return x & y;
-    }
-    if o == operator::OR {
-        return x | y;
-    }
-    if o == operator::XOR {
-        return x ^ y;
-    }
-    if o == operator::SHIFT_RIGHT {
-        return shift_right(x, y);
-    }
-    if o == operator::SHIFT_LEFT {
-        return shift_left(x, y);
-    }
-    comparison(o, x, y)
 }

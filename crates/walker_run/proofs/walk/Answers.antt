@@ -16,11 +16,11 @@ pub returns-then-memory-data : goal.returns-then-memory-data
 returns-then-memory-data c =
     let a = c.args in
     ap (λ (r : Walked). left r a.memory.now a.accesses.now) c.refused-then-memory-data.ensures
-    ∙ short_memory a.limit a.first a.table.now a.memory.now a.accesses.now c.in-Data.n (sym c.check.ensures ∙ c.in-Data.is) c.if-memory-data.true
+    ∙ short_memory a.limit a.first a.table.now a.memory.now a.accesses.now c.in-Some.n (sym c.check.ensures ∙ c.in-Some.is) c.if-memory-data.true
 
 pub returns : goal.returns
 returns c =
     let a = c.args in
-    let e = sym c.check.ensures ∙ c.in-Data.is in
-    walked_over a.limit a.first a.table.now a.memory.now a.accesses.now c.in-Data.n e c.if-memory-data.false
-    (c.run.ensures (taken a.limit a.first a.table.now a.memory.now a.accesses.now c.in-Data.n e))
+    let e = sym c.check.ensures ∙ c.in-Some.is in
+    walked_over a.limit a.first a.table.now a.memory.now a.accesses.now c.in-Some.n e c.if-memory-data.false
+    (c.run.ensures (taken a.limit a.first a.table.now a.memory.now a.accesses.now c.in-Some.n e))
