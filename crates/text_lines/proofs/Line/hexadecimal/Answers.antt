@@ -1,16 +1,16 @@
--- `text_lines::hexadecimal` meets its contract: four bytes were added, one by one.
+-- `text_lines::Line::hexadecimal` meets its contract: four bytes were added, one by one.
 -- Assumes nothing.
 use mathlib.Core.Path.{◌≡◌}
 use mathlib.Core.List.{[], ◌∷◌, ◌++◌}
 use Rattle.text_lines.specs.Text.{written, fitted}
 use Rattle.text_lines.specs.LineLaws.{joined}
-use Rattle.text_lines.proofs.hexadecimal.Goals as goal
+use Rattle.text_lines.proofs.Line.hexadecimal.Goals as goal
 
 pub returns : goal.returns
 returns c =
     let digit3 = c.digit-3 in let put2 = c.put-two in let digit2 = c.digit-2 in
     let put = c.put-one in let digit = c.digit in
-    let l = c.args.line in
+    let l = c.args.self in
     let d1 = digit.result in
     let d2 = digit2.result in
     let d3 = digit3.result in
