@@ -1,11 +1,13 @@
 // The table of the names that a source declares.
 #![tactic(auto)]
 
-ghost use Rattle.std.specs.Prelude.{◌≡◌, [], ◌∷◌, ◌++◌, ◌+◌, ◌-◌, ◌<◌};
+ghost use Rattle.std.specs.Prelude.{◌≡◌, [], ◌∷◌, ◌++◌, ◌+◌, ◌-◌, ◌<◌, length};
 ghost use Rattle.front_names_table.specs.View.{text_at};
+ghost use Rattle.x_names.specs.Scope.{same};
 ghost use Rattle.text_lines.specs.Text.{written, fitted, decimal};
 ghost use Rattle.text_buffer.specs.Buffer.{left, placed};
 ghost use Rattle.text_names.specs.Names as spec;
+ghost use Rattle.text_names.specs.NamesSoFar.{tokens_of, words_of};
 ghost use Rattle.text_names.specs.Walk as walk;
 ghost use Rattle.text_names.specs.Walk.{val_found, constant_found, Reads};
 ghost use Rattle.text_names.specs.Tokens.{IsAccepted, TokensOf, First};
@@ -115,25 +117,29 @@ fn token_text<'a>(source: &'a [u8], places: &[u32], values: &[u32], t: usize) ->
     text(source, wide(number(places, t)), wide(number(values, t)))
 }
 
-// The word of the val that token t names, among so many names: their tokens and words stand in two arrays.
-fn val_word(
-    source: &[u8],
-    places: &[u32],
-    values: &[u32],
-    declared: &[u32],
-    words: &[u32],
-    count: usize,
-    t: usize,
-) -> u32
-    ensures { result ≡ val_found source.now places.now values.now declared.now words.now count t }
+// A name that is declared: its token, and its word if it is a val.
+#[derive(Clone, Copy)]
+struct Declared {
+    token: u32,
+    word: u32,
+}
+
+// Whether a name is spelt as this text.
+fn is_spelt(source: &[u8], places: &[u32], values: &[u32], d: Declared, text: &[u8]) -> bool
+    ensures { result ≡ same (text_at source.now places.now values.now d.token) text.now }
 {
-    let mut k = count;
-    while 0 < k {
-        let name = token_text(source, places, values, wide(number(declared, k - 1)));
-        if x_spelling::equal(name, token_text(source, places, values, t)) {
-            return number(words, k - 1);
+    x_spelling::equal(token_text(source, places, values, wide(d.token)), text)
+}
+
+// The word of the val that token t names: the latest of the names that is spelt so.
+fn val_word(source: &[u8], places: &[u32], values: &[u32], names: &[Declared], t: usize) -> u32
+    ensures { result ≡ val_found source.now places.now values.now (tokens_of names.now) (words_of names.now) (length names.now) t }
+{
+    let text = token_text(source, places, values, t);
+    for k in (0..names.len()).rev() {
+        if is_spelt(source, places, values, names[k], text) {
+            return names[k].word;
         }
-        k -= 1;
     }
     0
 }
@@ -144,17 +150,15 @@ fn constant_word(
     kinds: &[u8],
     places: &[u32],
     values: &[u32],
-    declared: &[u32],
-    words: &[u32],
-    count: usize,
+    names: &[Declared],
     j: usize,
 ) -> u32
-    ensures { result ≡ constant_found source.now kinds.now places.now values.now declared.now words.now count j }
+    ensures { result ≡ constant_found source.now kinds.now places.now values.now (tokens_of names.now) (words_of names.now) (length names.now) j }
 {
     if kind_at(kinds, j) == kind::NUMBER {
         return number(values, j);
     }
-    val_word(source, places, values, declared, words, count, j)
+    val_word(source, places, values, names, j)
 }
 
 // The lines of the names that the tokens declare, from the first specification to the last.
@@ -169,12 +173,12 @@ fn put_names(
     requires { Reads source.now kinds.now places.now values.now }
     ensures { left out.new result ≡ placed out.old at (walk.lines source.now kinds.now places.now values.now) }
 {
-    let mut declared = [0u32; 1024];
-    let mut words = [0u32; 1024];
+    let mut names = [Declared { token: 0, word: 0 }; 1024];
     let mut count: usize = 0;
     let mut used: u32 = 0;
     let mut end = at;
     let mut i: usize = 0;
+    // A `while`, since a specification's kind says how many tokens it has.
     while i < kinds.len() {
         let k = kind_at(kinds, i);
         if k == kind::COMMENT {
@@ -186,26 +190,13 @@ fn put_names(
             if kind::VAL < k {
                 return end;
             }
-            let w = constant_word(
-                source,
-                kinds,
-                places,
-                values,
-                &declared,
-                &words,
-                count,
-                i + 3,
-            );
-            end = put_item(
-                out,
-                end,
-                k,
-                used,
-                w,
-                token_text(source, places, values, i + 1),
-            );
-            declared[count] = (i + 1) as u32;
-            words[count] = item_value(k, w);
+            let w = constant_word(source, kinds, places, values, &names[..count], i + 3);
+            let text = token_text(source, places, values, i + 1);
+            end = put_item(out, end, k, used, w, text);
+            names[count] = Declared {
+                token: (i + 1) as u32,
+                word: item_value(k, w),
+            };
             count += 1;
             used += item_words(k, w);
             i += front_names_judge::width(k);
