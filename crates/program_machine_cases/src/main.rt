@@ -40,7 +40,10 @@ fn ran(rt: &impl Print, code: &[u8], limit: u64) {
     let r = after.regs;
     let f = after.flags;
     let _ = print!(rt; " {} {} {}", answer.status, answer.number, answer.count);
-    let _ = print!(rt; " {:08x} {:08x} {:08x} {:08x} ", r[0], after.lr, after.pc, memory[0]);
+    let _ = print!(rt;
+        " {:08x} {:08x} {:08x} {:08x} ",
+        r[0], after.lr, after.pc, memory[0]
+    );
     for (set, letter) in [(f.n, 'N'), (f.z, 'Z'), (f.c, 'C'), (f.v, 'V')] {
         let _ = print!(rt; "{}", flag(set, letter));
     }

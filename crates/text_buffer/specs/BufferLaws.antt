@@ -64,14 +64,14 @@ copied out at text n h e =
     let l : length xs ≡ n = omega (arith, length-take n text, e) in
     let out' = take at out ++ (xs ++ drop (at + n) out) in
     let put : sets out at xs ≡ out' =
-        sets-eq xs out at (omega (arith, l, e))
-        ∙ append_assoc (take at out) xs (drop (at + length xs) out)
-        ∙ ap (λ (k : ℕ). take at out ++ (xs ++ drop (at + k) out)) l in
+    sets-eq xs out at (omega (arith, l, e))
+    ∙ append_assoc (take at out) xs (drop (at + length xs) out)
+    ∙ ap (λ (k : ℕ). take at out ++ (xs ++ drop (at + k) out)) l in
     let front : left out' (at + n) ≡ placed out at xs = same _ _ _ _ (sym put) (omega (arith, l, e)) in
     let rest : left out' (at + n) ≡ placed out' (at + n) ys =
-        by_test (λ _. left out' (at + n) ≡ placed out' (at + n) ys) (ltb n (length text))
-        (λ t. let b = ltb-true n (length text) t in full out' (at + n) ys (omega (arith, e, ap length put, length-sets out at xs)))
-        (λ t. let b = ltb-false n (length text) t in none out' (at + n) ∙ ap (placed out' (at + n)) (sym (drop_of_length-le text b))) in
+    by_test (λ _. left out' (at + n) ≡ placed out' (at + n) ys) (ltb n (length text))
+    (λ t. let b = ltb-true n (length text) t in full out' (at + n) ys (omega (arith, e, ap length put, length-sets out at xs)))
+    (λ t. let b = ltb-false n (length text) t in none out' (at + n) ∙ ap (placed out' (at + n)) (sym (drop_of_length-le text b))) in
     rest ∙ then out out' at (at + n) xs ys front ∙ ap (placed out at) (take-append-drop n text)
 
 -- ── a text at the front ──

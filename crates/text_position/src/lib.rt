@@ -119,5 +119,7 @@ pub fn caret_line(source: &[u8], place: usize) -> Line
     ensures { written result ≡ caret_line source.now place }
 {
     let left = left_of(source, place);
-    put_spaces(Line::empty(), left - cut(left)).put(b'^').put(LINE_FEED)
+    put_spaces(Line::empty(), left - cut(left))
+        .put(b'^')
+        .put(LINE_FEED)
 }

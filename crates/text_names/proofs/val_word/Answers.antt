@@ -20,7 +20,7 @@ returns-then-is_spelt c =
     let names = x.names.now in
     let text = text_at x.source.now x.places.now x.values.now in
     let is : same (text (get_or (tokens_of names) (k - 1) 0)) (text x.t) ≡ true =
-        (λ j. same (text (get_or-map (λ (d : Declared). d.token) names (k - 1) none j)) (sym c.token_text-text.ensures j)) ∙ sym c.is_spelt.ensures ∙ c.if-is_spelt.true in
+    (λ j. same (text (get_or-map (λ (d : Declared). d.token) names (k - 1) none j)) (sym c.token_text-text.ensures j)) ∙ sym c.is_spelt.ensures ∙ c.if-is_spelt.true in
     sym (c.loop-k.invariant ∙ found_here _ _ _ (tokens_of names) (words_of names) (text x.t) k c.loop-k-test.true is ∙ get_or-map (λ (d : Declared). d.word) names (k - 1) none)
 
 pub loop-k-preserved : goal.loop-k-preserved
@@ -30,7 +30,7 @@ loop-k-preserved c =
     let names = x.names.now in
     let text = text_at x.source.now x.places.now x.values.now in
     let is : same (text (get_or (tokens_of names) (k - 1) 0)) (text x.t) ≡ false =
-        (λ j. same (text (get_or-map (λ (d : Declared). d.token) names (k - 1) none j)) (sym c.token_text-text.ensures j)) ∙ sym c.is_spelt.ensures ∙ c.if-is_spelt.false in
+    (λ j. same (text (get_or-map (λ (d : Declared). d.token) names (k - 1) none j)) (sym c.token_text-text.ensures j)) ∙ sym c.is_spelt.ensures ∙ c.if-is_spelt.false in
     c.loop-k.invariant ∙ found_next _ _ _ (tokens_of names) (words_of names) (text x.t) k c.loop-k-test.true is
 
 pub returns : goal.returns
