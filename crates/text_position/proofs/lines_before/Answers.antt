@@ -1,5 +1,5 @@
 -- `text_position::lines_before` meets its contract: what was counted before the place, or before the end. Assumes nothing.
-use Rattle.std.proofs.Common.{◌≡◌, ap, ◌∙◌, arith, ℕ, List, take, length-take}
+use Rattle.std.proofs.Common.{◌≡◌, ap, ◌∙◌, arith, ℕ, take, length-take}
 use Rattle.text_position.specs.Position as spec
 use Rattle.text_position.specs.PositionLaws.{take_within, feeds_counted}
 use Rattle.text_position.proofs.lines_before.Goals as goal
