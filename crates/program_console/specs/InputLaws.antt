@@ -2,9 +2,9 @@
 use Rattle.std.specs.Prelude.{◌≡◌, List, ℕ}
 use Rattle.std.proofs.Common.{subst}
 use Rattle.std.specs.Counts.{IsPrefixLen}
-use Rattle.program_console.specs.declared.Input.{Input}
-use Rattle.program_console.specs.declared.Input.TheVariants.{Bytes}
+use Rattle.std.specs.declared.result.Result.{Result}
+use Rattle.std.specs.declared.result.Result.TheVariants.{Ok}
 use Rattle.program_console.specs.Input.{Within}
 
-pub counted : (r : Input) (n : ℕ) (buffer : List ℕ) → r ≡ Bytes n → Within r buffer → IsPrefixLen n buffer
-counted r n buffer = subst (λ (x : Input). Within x buffer)
+pub counted : {E : Type 0} (r : Result ℕ E) (n : ℕ) (buffer : List ℕ) → r ≡ Ok n → Within r buffer → IsPrefixLen n buffer
+counted {E} r n buffer = subst (λ (x : Result ℕ E). Within x buffer)

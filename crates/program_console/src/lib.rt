@@ -12,41 +12,20 @@ use std::io;
 use std::io::{ErrorKind, Read};
 use std::process::ExitCode;
 
-// How many bytes were read, or why a read failed.
-#[derive(Drop)]
-pub enum Input {
-    Bytes(usize),
-    Failed(io::Error),
-}
-
-// One read; no bytes at the end of the input.
-fn read_once(reader: &mut impl Read, buffer: &mut [u8]) -> Input
-    ensures { Within result buffer.new }
-{
-    match reader.read(buffer) {
-        Ok(n) => Input::Bytes(n),
-        Err(e) => Input::Failed(e),
-    }
-}
-
-// Standard input to the front of a lent buffer, until this is full or the input ends.
-pub fn read(rt: &impl io::Input, buffer: &mut [u8]) -> Input
+// Standard input to the front of a lent buffer, until this is full or the input ends: how many bytes were read, or why a read failed.
+pub fn read(rt: &impl io::Input, buffer: &mut [u8]) -> io::Result<usize>
     ensures { Within result buffer.new }
 {
     let mut reader = rt.reader();
     let mut done = 0;
     while done < buffer.len() {
-        match read_once(&mut reader, &mut buffer[done..]) {
-            Input::Failed(e) => return Input::Failed(e),
-            Input::Bytes(n) => {
-                if n == 0 {
-                    return Input::Bytes(done);
-                }
-                done += n;
-            }
+        let n = reader.read(&mut buffer[done..])?;
+        if n == 0 {
+            break;
         }
+        done += n;
     }
-    Input::Bytes(done)
+    Ok(done)
 }
 
 // A text to standard output: whether all of it was taken, or why not.

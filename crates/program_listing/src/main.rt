@@ -8,7 +8,6 @@
 ghost use Rattle.std.specs.Prelude.{◌≡◌, ◌≤◌, length};
 ghost use Rattle.text_listing.specs.Listing.{listing_of, listing_limit};
 
-use program_console::Input;
 use std::io;
 use std::process::ExitCode;
 
@@ -35,8 +34,8 @@ fn main(rt: HostRuntime) -> ExitCode {
     // One byte more than a source may have, so that a longer one is seen to be longer.
     let mut source = [0u8; 16385];
     let n = match program_console::read(&rt, &mut source) {
-        Input::Bytes(n) => n,
-        Input::Failed(why) => return program_console::fail(&rt, NO_INPUT, why),
+        Ok(n) => n,
+        Err(why) => return program_console::fail(&rt, NO_INPUT, why),
     };
     let mut text = [0u8; 1432832];
     match answer(&rt, &source[..n], &mut text) {

@@ -10,79 +10,47 @@ fn text(rt: &impl Print, s: &[u8]) {
     let _ = rt.write_all(s);
 }
 
-fn number(rt: &impl Print, n: u64) {
-    let _ = print!(rt; "{n}");
-}
-
 // A name, its number of comparisons, and the kind and value of a reserved word.
 fn shown(rt: &impl Print, w: &[u8]) {
     let looked = x_spelling::look_up(w);
     text(rt, w);
-    text(rt, b" ");
-    number(rt, looked.compared as u64);
-    let found = looked.found;
-    match found {
-        Found::Reserved(token) => {
-            text(rt, b" reserved ");
-            number(rt, token.kind as u64);
-            text(rt, b":");
-            number(rt, token.value as u64);
-        }
-        Found::Free => text(rt, b" name"),
-    }
-    text(rt, b"\n");
+    let _ = print!(rt; " {} ", looked.compared);
+    let _ = match looked.found {
+        Found::Reserved(token) => println!(rt; "reserved {}:{}", token.kind, token.value),
+        Found::Free => println!(rt; "name"),
+    };
 }
 
 // A word's prefixes, itself the last.
 fn prefixes(rt: &impl Print, w: &[u8]) {
-    let mut n = 1;
-    while n <= w.len() {
-        shown(rt, &w[0..n]);
-        n += 1;
+    for n in 1..=w.len() {
+        shown(rt, &w[..n]);
     }
 }
 
 // A word, and behind it one byte again and again, up to the longest name.
 fn copied(w: &[u8], fill: u8) -> [u8; 33] {
     let mut name = [fill; 33];
-    let mut i = 0;
-    while i < w.len() {
-        if i < LONGEST {
-            name[i] = w[i];
-        }
-        i += 1;
-    }
+    let n = w.len().min(LONGEST);
+    name[..n].copy_from_slice(&w[..n]);
     name
 }
 
-// The first n bytes of a name.
-fn start(rt: &impl Print, name: &[u8; 33], n: usize) {
-    let whole = &name[..];
-    if n <= whole.len() {
-        text(rt, &whole[0..n]);
-    }
-}
-
-// The number of comparisons of a name's first n bytes.
-fn count(rt: &impl Print, name: &[u8; 33], n: usize) {
-    let whole = &name[..];
-    if n <= whole.len() {
-        let looked = x_spelling::look_up(&whole[0..n]);
-        number(rt, looked.compared as u64);
-    }
+// The number of comparisons of a name.
+fn count(rt: &impl Print, name: &[u8]) {
+    let _ = print!(rt; "{}", x_spelling::look_up(name).compared);
 }
 
 // A word with each character of a name in turn at a place, which is one of the word's own or the next.
 fn varied(rt: &impl Print, w: &[u8], place: usize, n: usize) {
-    let characters = b"abcdefghijklmnopqrstuvwxyzABCDEFGHIJKLMNOPQRSTUVWXYZ0123456789_";
     let mut name = copied(w, b'?');
-    if place < LONGEST {
+    if place < LONGEST && n <= LONGEST {
         name[place] = b'?';
-        start(rt, &name, n);
+        text(rt, &name[..n]);
         text(rt, b" ");
-        for i in 0..63 {
-            name[place] = characters[i];
-            count(rt, &name, n);
+        for c in b"abcdefghijklmnopqrstuvwxyzABCDEFGHIJKLMNOPQRSTUVWXYZ0123456789_" {
+            name[place] = *c;
+            count(rt, &name[..n]);
         }
         text(rt, b"\n");
     }
@@ -93,10 +61,8 @@ fn extended(rt: &impl Print, w: &[u8]) {
     let name = copied(w, b'_');
     text(rt, w);
     text(rt, b".. ");
-    let mut n = w.len();
-    while n < LONGEST {
-        n += 1;
-        count(rt, &name, n);
+    for n in w.len()..LONGEST {
+        count(rt, &name[..n + 1]);
     }
     text(rt, b"\n");
 }
@@ -104,10 +70,8 @@ fn extended(rt: &impl Print, w: &[u8]) {
 // A word, its prefixes, the names of its length and first letter that differ in one byte, and its extensions.
 fn family(rt: &impl Print, w: &[u8]) {
     prefixes(rt, w);
-    let mut place = 1;
-    while place < w.len() {
+    for place in 1..w.len() {
         varied(rt, w, place, w.len());
-        place += 1;
     }
     if w.len() < LONGEST {
         varied(rt, w, w.len(), w.len() + 1);

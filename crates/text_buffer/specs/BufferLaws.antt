@@ -1,7 +1,8 @@
 -- Texts put one after another are one text, and what a text at the front comes to. Laws; assumes nothing.
-use Rattle.std.specs.Prelude.{◌≡◌, refl, List, [], ◌∷◌, ◌++◌, ℕ, suc, ◌≤◌, ◌<◌, min, ltb, length, take, drop, set}
-use Rattle.std.proofs.Common.{sym, ap, ◌∙◌, arith, ltb-true, ltb-false, length-append, length-set, take_all, take_at}
-use Rattle.std.proofs.lemmas.List.Edits.{sets}
+use Rattle.std.specs.Prelude.{◌≡◌, refl, List, [], ◌∷◌, ◌++◌, ℕ, suc, ◌+◌, ◌-◌, ◌≤◌, ◌<◌, min, ltb, length, take, drop, set}
+use Rattle.std.proofs.Common.{sym, ap, ◌∙◌, arith, append_assoc, ltb-true, ltb-false, length-append, length-set, length-take, take_all, take_at, drop_of_length-le}
+use Rattle.std.proofs.lemmas.List.{take-append-drop}
+use Rattle.std.proofs.lemmas.List.Edits.{sets, sets-eq}
 use Rattle.std.proofs.Math.Seq.{length-sets, set_out, drop-nil}
 use Rattle.arm_word.specs.ChoiceLaws.{by_test}
 use Rattle.text_buffer.specs.Buffer.{Placed, left, placed, overwritten}
@@ -53,6 +54,25 @@ joined (x ∷ xs) out at ys =
 pub then : (out out' : List ℕ) (at end : ℕ) (xs ys : List ℕ) → left out' end ≡ placed out at xs → placed out' end ys ≡ placed out at (xs ++ ys)
 unfolding behind
 then out out' at end xs ys e = ap (λ (p : Placed). behind p ys) e ∙ joined xs out at ys
+
+-- as much of the text as there is room for, in one copy
+pub copied : (out : List ℕ) (at : ℕ) (text : List ℕ) (n : ℕ) → at ≤ length out → n ≡ min (length text) (length out - at)
+    → left (take at out ++ (take n text ++ drop (at + n) out)) (at + n) ≡ placed out at text
+copied out at text n h e =
+    let xs = take n text in
+    let ys = drop n text in
+    let l : length xs ≡ n = omega (arith, length-take n text, e) in
+    let out' = take at out ++ (xs ++ drop (at + n) out) in
+    let put : sets out at xs ≡ out' =
+    sets-eq xs out at (omega (arith, l, e))
+    ∙ append_assoc (take at out) xs (drop (at + length xs) out)
+    ∙ ap (λ (k : ℕ). take at out ++ (xs ++ drop (at + k) out)) l in
+    let front : left out' (at + n) ≡ placed out at xs = same _ _ _ _ (sym put) (omega (arith, l, e)) in
+    let rest : left out' (at + n) ≡ placed out' (at + n) ys =
+    by_test (λ _. left out' (at + n) ≡ placed out' (at + n) ys) (ltb n (length text))
+    (λ t. let b = ltb-true n (length text) t in full out' (at + n) ys (omega (arith, e, ap length put, length-sets out at xs)))
+    (λ t. let b = ltb-false n (length text) t in none out' (at + n) ∙ ap (placed out' (at + n)) (sym (drop_of_length-le text b))) in
+    rest ∙ then out out' at (at + n) xs ys front ∙ ap (placed out at) (take-append-drop n text)
 
 -- ── a text at the front ──
 

@@ -11,16 +11,12 @@ use text_lines::Line;
 pub fn append(out: &mut [u8], at: usize, text: &[u8]) -> usize
     ensures { left out.new result ≡ placed out.old at text.now }
 {
-    let mut end = at;
-    let mut i = 0;
-    while i < text.len() {
-        if end >= out.len() {
-            return end;
-        }
-        out[end] = text[i];
-        end += 1;
-        i += 1;
+    if out.len() <= at {
+        return at;
     }
+    let n = text.len().min(out.len() - at);
+    let end = at + n;
+    out[at..end].copy_from_slice(&text[..n]);
     end
 }
 
@@ -28,10 +24,6 @@ pub fn append(out: &mut [u8], at: usize, text: &[u8]) -> usize
 pub fn append_line(out: &mut [u8], at: usize, line: Line) -> usize
     ensures { left out.new result ≡ placed out.old at (written line) }
 {
-    let bytes = line.bytes;
-    let length = line.length;
-    if length < 128 {
-        return append(out, at, &bytes[..length]);
-    }
-    append(out, at, &bytes)
+    let length = line.length.min(128);
+    append(out, at, &line.bytes[..length])
 }

@@ -11,8 +11,10 @@ use text_lines::Line;
 fn located(at: u32, first: u16) -> Line
     ensures { written result ≡ fitted (spec.located at first) }
 {
-    let address = text_lines::hexadecimal(text_lines::empty(), at);
-    text_lines::hexadecimal(text_lines::put(address, b' '), first as u32)
+    Line::empty()
+        .hexadecimal(at)
+        .put(b' ')
+        .hexadecimal(first as u32)
 }
 
 // The second halfword, if the first has one.
@@ -20,9 +22,9 @@ fn whole(line: Line, first: u16, second: u16) -> Line
     ensures { written result ≡ fitted (written line ++ spec.second first second) }
 {
     if first < 0xF000 {
-        return text_lines::put_all(line, b"");
+        return line;
     }
-    text_lines::hexadecimal(text_lines::put(line, b' '), second as u32)
+    line.put(b' ').hexadecimal(second as u32)
 }
 
 // The line of the instruction at an address, by the two halfwords there; of one that is not in document 01's list, only its first halfword.
@@ -31,13 +33,10 @@ pub fn line(at: u32, first: u16, second: u16) -> Line
 {
     let head = located(at, first);
     match arm_encoding::decode(first, second) {
-        None => text_lines::put(head, 10),
+        None => head.put(b'\n'),
         Some(i) => {
             let halves = whole(head, first, second);
-            text_lines::put(
-                text_mnemonic::instruction(text_lines::put(halves, b' '), at, i),
-                10,
-            )
+            text_mnemonic::instruction(halves.put(b' '), at, i).put(b'\n')
         }
     }
 }

@@ -19,11 +19,12 @@ fn sizes(t: Translation) -> Line
     requires { Small t }
     ensures { written result ≡ spec.sizes t }
 {
-    let accepted = text_lines::put_all(text_lines::empty(), b"accepted\n");
-    let tokens = text_lines::entry(accepted, b"tokens: ", t.tokens);
-    let words = text_lines::entry(tokens, b"data words: ", t.data);
-    let needed = text_lines::entry(words, b"needed words: ", t.data + 2 * t.depth + 8);
-    text_lines::entry(needed, b"image bytes: ", t.code)
+    Line::empty()
+        .put_all(b"accepted\n")
+        .entry(b"tokens: ", t.tokens)
+        .entry(b"data words: ", t.data)
+        .entry(b"needed words: ", t.data + 2 * t.depth + 8)
+        .entry(b"image bytes: ", t.code)
 }
 
 // An accepted source: its sizes and its names.
@@ -57,9 +58,10 @@ fn place_line(source: &[u8], place: u32) -> Line
     let at = place as usize;
     let line = text_position::lines_before(source, at) as u32 + 1;
     let column = text_position::left_of(source, at) as u32 + 1;
-    let refused = text_lines::put_all(text_lines::empty(), b"refused: line ");
-    let lined = text_lines::decimal(refused, line);
-    text_lines::entry(lined, b", column ", column)
+    Line::empty()
+        .put_all(b"refused: line ")
+        .decimal(line)
+        .entry(b", column ", column)
 }
 
 // Line and column, the line, and a caret below the place.

@@ -12,44 +12,6 @@ pub struct Line {
     pub length: usize,
 }
 
-pub fn empty() -> Line
-    ensures { written result ≡ [] }
-{
-    Line {
-        bytes: [0; 128],
-        length: 0,
-    }
-}
-
-// One byte more.
-pub fn put(line: Line, b: u8) -> Line
-    ensures { written result ≡ fitted (written line ++ (b ∷ [])) }
-{
-    let at = line.length;
-    let mut bytes = line.bytes;
-    if at < 128 {
-        bytes[at] = b;
-        return Line {
-            bytes: bytes,
-            length: at + 1,
-        };
-    }
-    line
-}
-
-// All bytes of a slice more.
-pub fn put_all(line: Line, s: &[u8]) -> Line
-    ensures { written result ≡ fitted (written line ++ s.now) }
-{
-    let mut l = line;
-    let mut i = 0;
-    while i < s.len() {
-        l = put(l, s[i]);
-        i += 1;
-    }
-    l
-}
-
 // A digit of a base up to 16.
 fn digit(d: u32) -> u8
     requires { d < 16 }
@@ -61,60 +23,95 @@ fn digit(d: u32) -> u8
     (55 + d) as u8
 }
 
-// Four hexadecimal digits, of the number's low halfword.
-pub fn hexadecimal(line: Line, n: u32) -> Line
-    ensures { written result ≡ fitted (written line ++ spec.hexadecimal n) }
-{
-    let one = put(line, digit(n / 4096 % 16));
-    let two = put(one, digit(n / 256 % 16));
-    let three = put(two, digit(n / 16 % 16));
-    put(three, digit(n % 16))
-}
-
-// A number of up to 64 bits in base 10.
-pub fn long_decimal(line: Line, n: u64) -> Line
-    ensures { written result ≡ fitted (written line ++ spec.long_decimal n) }
-{
-    if n < 10 {
-        return put(line, digit(n as u32));
+impl Line {
+    pub fn empty() -> Line
+        ensures { written result ≡ [] }
+    {
+        Line {
+            bytes: [0; 128],
+            length: 0,
+        }
     }
-    let front = long_decimal(line, n / 10);
-    put(front, digit((n % 10) as u32))
+
+    // One byte more.
+    pub fn put(mut self, b: u8) -> Line
+        ensures { written result ≡ fitted (written self ++ (b ∷ [])) }
+    {
+        if self.length < 128 {
+            self.bytes[self.length] = b;
+            self.length += 1;
+        }
+        self
+    }
+
+    // All bytes of a slice more.
+    pub fn put_all(self, s: &[u8]) -> Line
+        ensures { written result ≡ fitted (written self ++ s.now) }
+    {
+        let mut line = self;
+        for b in s {
+            line = line.put(*b);
+        }
+        line
+    }
+
+    // Four hexadecimal digits, of the number's low halfword.
+    pub fn hexadecimal(self, n: u32) -> Line
+        ensures { written result ≡ fitted (written self ++ spec.hexadecimal n) }
+    {
+        let one = self.put(digit(n / 4096 % 16));
+        let two = one.put(digit(n / 256 % 16));
+        let three = two.put(digit(n / 16 % 16));
+        three.put(digit(n % 16))
+    }
+
+    // A number of up to 64 bits in base 10.
+    pub fn long_decimal(self, n: u64) -> Line
+        ensures { written result ≡ fitted (written self ++ spec.long_decimal n) }
+    {
+        if n < 10 {
+            return self.put(digit(n as u32));
+        }
+        self.long_decimal(n / 10).put(digit((n % 10) as u32))
+    }
+
+    // A word in base 10.
+    pub fn decimal(self, n: u32) -> Line
+        ensures { written result ≡ fitted (written self ++ spec.decimal n) }
+    {
+        self.long_decimal(u64::from(n))
+    }
+
+    // A line of the report: a name with its `=`, the number, a line feed.
+    pub fn entry(self, name: &[u8], n: u32) -> Line
+        ensures { written result ≡ fitted (written self ++ spec.entry name.now n) }
+    {
+        self.put_all(name).decimal(n).put(b'\n')
+    }
 }
 
-// A word in base 10.
-pub fn decimal(line: Line, n: u32) -> Line
-    ensures { written result ≡ fitted (written line ++ spec.decimal n) }
-{
-    long_decimal(line, n as u64)
-}
-
-// A line of the report: a name with its `=`, the number, a line feed.
-pub fn entry(line: Line, name: &[u8], n: u32) -> Line
-    ensures { written result ≡ fitted (written line ++ spec.entry name.now n) }
-{
-    let named = put_all(line, name);
-    let numbered = decimal(named, n);
-    put(numbered, 10)
+// What a translation answers: the seven numbers of the report.
+#[derive(Clone, Copy)]
+pub struct Answer {
+    pub status: u32,
+    pub place: u32,
+    pub tokens: u32,
+    pub rows: u32,
+    pub data: u32,
+    pub depth: u32,
+    pub code: u32,
 }
 
 // The seven lines of the report.
-pub fn summary(
-    status: u32,
-    place: u32,
-    tokens: u32,
-    rows: u32,
-    words: u32,
-    depth: u32,
-    code: u32,
-) -> Line
-    ensures { written result ≡ spec.summary status place tokens rows words depth code }
+pub fn summary(n: Answer) -> Line
+    ensures { written result ≡ spec.summary n.status n.place n.tokens n.rows n.data n.depth n.code }
 {
-    let a = entry(empty(), b"status=", status);
-    let b = entry(a, b"place=", place);
-    let c = entry(b, b"tokens=", tokens);
-    let d = entry(c, b"rows=", rows);
-    let e = entry(d, b"data=", words);
-    let f = entry(e, b"depth=", depth);
-    entry(f, b"code=", code)
+    Line::empty()
+        .entry(b"status=", n.status)
+        .entry(b"place=", n.place)
+        .entry(b"tokens=", n.tokens)
+        .entry(b"rows=", n.rows)
+        .entry(b"data=", n.data)
+        .entry(b"depth=", n.depth)
+        .entry(b"code=", n.code)
 }

@@ -13,10 +13,10 @@ use text_buffer::append_line;
 fn byte(image: &[u8], at: usize) -> u16
     ensures { (result ≡ get_or image.now at 0) × (result < 256) }
 {
-    if at < image.len() {
-        return image[at] as u16;
+    match image.get(at) {
+        Some(b) => *b as u16,
+        None => 0,
     }
-    0
 }
 
 // Two bytes of the image, the lower first.
@@ -27,7 +27,7 @@ fn halfword(image: &[u8], at: usize) -> u16
     byte(image, at) + 256 * byte(image, at + 1)
 }
 
-// The lines of an image, from its first instruction to its last.
+// The lines of an image, from its first instruction to its last. A `while`, since an instruction has one halfword or two.
 fn image_lines(image: &[u8], out: &mut [u8]) -> usize
     requires { length image.now ≤ 65536 }
     ensures { left out.new result ≡ placed out.old 0 (text_from 0 image.now) }

@@ -1,8 +1,7 @@
 -- An instruction as text: document 01's mnemonic and the operands. Definitions; rests on lines of text and the instructions.
 -- Registers are written r0 to r7, offsets in bytes, and a branch's operand is the address that it goes to.
-use Rattle.std.specs.Prelude.{ℕ, ◌*◌, List, ◌++◌, eqb}
+use Rattle.std.specs.Prelude.{ℕ, ◌*◌, List, ◌++◌}
 use Rattle.arm_word.specs.Word.{add}
-use Rattle.arm_word.specs.Choice.{pick}
 use Rattle.arm_word.specs.Ascii.{ascii}
 use Rattle.text_lines.specs.Text.{hexadecimal, decimal}
 use Rattle.arm_encoding.specs.declared.Instr.{Instr}
@@ -45,59 +44,6 @@ triple name d l r = pair name d l ++ next_register r
 -- "Distances in halfwords from address + 4", "All address sums wrap at 32 bits": `BL 000C`
 abbrev pub branch : List ℕ → ℕ → ℕ → List ℕ
 branch name at k = name ++ hexadecimal (add (add at 4) (add k k))
-
--- the mnemonics of each form, by the numbers that the code has for them
-unfoldable pub offset_name : ℕ → List ℕ
-offset_name k =
-    pick (eqb k 0) (ascii "SHLI ")
-    (pick (eqb k 1) (ascii "SHRI ")
-    (pick (eqb k 2) (ascii "ASHRI ")
-    (pick (eqb k 3) (ascii "STRI ")
-    (ascii "LDRI "))))
-
-unfoldable pub triple_name : ℕ → List ℕ
-triple_name k =
-    pick (eqb k 0) (ascii "ADDR ")
-    (pick (eqb k 1) (ascii "SUBR ")
-    (pick (eqb k 2) (ascii "STR ")
-    (ascii "LDR ")))
-
-unfoldable pub immediate_name : ℕ → List ℕ
-immediate_name k =
-    pick (eqb k 0) (ascii "MOVI ")
-    (pick (eqb k 1) (ascii "ADDI ")
-    (pick (eqb k 2) (ascii "SUBI ")
-    (pick (eqb k 3) (ascii "LDRPCI ")
-    (pick (eqb k 4) (ascii "STRSPI ")
-    (pick (eqb k 5) (ascii "LDRSPI ")
-    (pick (eqb k 6) (ascii "ADDPCI ")
-    (ascii "ADDSPI ")))))))
-
-unfoldable pub pair_name : ℕ → List ℕ
-pair_name k =
-    pick (eqb k 0) (ascii "ANDR ")
-    (pick (eqb k 1) (ascii "XORR ")
-    (pick (eqb k 2) (ascii "SHL ")
-    (pick (eqb k 3) (ascii "SHR ")
-    (pick (eqb k 4) (ascii "NEGR ")
-    (pick (eqb k 5) (ascii "ORR ")
-    (pick (eqb k 6) (ascii "MUL ")
-    (ascii "MVNR ")))))))
-
-unfoldable pub alone_name : ℕ → List ℕ
-alone_name k =
-    pick (eqb k 0) (ascii "INCSP ")
-    (pick (eqb k 1) (ascii "DECSP ")
-    (ascii "SVC "))
-
-unfoldable pub branch_name : ℕ → List ℕ
-branch_name k =
-    pick (eqb k 0) (ascii "BEQ ")
-    (pick (eqb k 1) (ascii "BNE ")
-    (pick (eqb k 2) (ascii "BGE ")
-    (pick (eqb k 3) (ascii "BLT ")
-    (pick (eqb k 4) (ascii "BU ")
-    (ascii "BL ")))))
 
 -- the mnemonic and the operands of an instruction at an address
 unfoldable pub instruction : ℕ → Instr → List ℕ

@@ -2,5 +2,6 @@
 pub mod Names
 pub mod Lines
 pub mod Walk
+pub mod NamesSoFar
 pub mod Tokens
 pub mod NamesRoom

@@ -1,11 +1,13 @@
 // The table of the names that a source declares.
 #![tactic(auto)]
 
-ghost use Rattle.std.specs.Prelude.{◌≡◌, [], ◌∷◌, ◌++◌, ◌+◌, ◌-◌, ◌<◌};
+ghost use Rattle.std.specs.Prelude.{◌≡◌, [], ◌∷◌, ◌++◌, ◌+◌, ◌-◌, ◌<◌, length};
 ghost use Rattle.front_names_table.specs.View.{text_at};
+ghost use Rattle.x_names.specs.Scope.{same};
 ghost use Rattle.text_lines.specs.Text.{written, fitted, decimal};
 ghost use Rattle.text_buffer.specs.Buffer.{left, placed};
 ghost use Rattle.text_names.specs.Names as spec;
+ghost use Rattle.text_names.specs.NamesSoFar.{tokens_of, words_of};
 ghost use Rattle.text_names.specs.Walk as walk;
 ghost use Rattle.text_names.specs.Walk.{val_found, constant_found, Reads};
 ghost use Rattle.text_names.specs.Tokens.{IsAccepted, TokensOf, First};
@@ -15,37 +17,29 @@ use front_names_table::{number, text, wide};
 use front_read_expressions::kind_at;
 use text_buffer::{append, append_line};
 use text_lines::Line;
+use text_position::put_spaces;
 use x_spelling::kind;
 use x_tokens::Scanned;
 
 const COLUMNS: usize = 7;
 
-fn one_less(n: usize) -> usize
-    ensures { result ≡ n - 1 }
-{
-    if 0 < n { n - 1 } else { 0 }
-}
-
 // A number at the right of so many columns.
 fn put_right(line: Line, n: u32, columns: usize) -> Line
     ensures { written result ≡ fitted (written line ++ right columns (decimal n)) }
 {
+    let before = columns.saturating_sub(1);
     if n < 10 {
-        let spaces = text_position::put_spaces(line, one_less(columns));
-        return text_lines::decimal(spaces, n);
+        return put_spaces(line, before).decimal(n);
     }
-    let front = put_right(line, n / 10, one_less(columns));
-    text_lines::decimal(front, n % 10)
+    put_right(line, n / 10, before).decimal(n % 10)
 }
 
 // What stands before the name of a var or an array.
 fn data_head(sort: &[u8], first: u32, words: u32) -> Line
     ensures { written result ≡ fitted (data_head sort.now first words) }
 {
-    let sorted = text_lines::put_all(text_lines::empty(), sort);
-    let placed = put_right(sorted, first, COLUMNS);
-    let counted = put_right(placed, words, COLUMNS);
-    text_lines::put_all(counted, b"  ")
+    let placed = put_right(Line::empty().put_all(sort), first, COLUMNS);
+    put_right(placed, words, COLUMNS).put_all(b"  ")
 }
 
 // A word as a signed number, added to a line.
@@ -53,26 +47,23 @@ fn put_signed(line: Line, w: u32) -> Line
     ensures { written result ≡ fitted (written line ++ spec.signed w) }
 {
     if w < 2147483648 {
-        return text_lines::decimal(line, w);
+        return line.decimal(w);
     }
-    let sign = text_lines::put(line, b'-');
-    text_lines::decimal(sign, 4294967295 - w + 1)
+    line.put(b'-').decimal(w.wrapping_neg())
 }
 
 // What stands after the name of a val.
 fn val_tail(w: u32) -> Line
     ensures { written result ≡ val_tail w }
 {
-    let equals = text_lines::put_all(text_lines::empty(), b" = ");
-    let valued = put_signed(equals, w);
-    text_lines::put(valued, b'\n')
+    put_signed(Line::empty().put_all(b" = "), w).put(b'\n')
 }
 
 // The line of a var or an array ends after the name.
 fn line_end() -> Line
     ensures { written result ≡ 10 ∷ [] }
 {
-    text_lines::put(text_lines::empty(), b'\n')
+    Line::empty().put(b'\n')
 }
 
 // A name with what stands before and after it.
@@ -88,34 +79,35 @@ fn put_name(out: &mut [u8], at: usize, head: Line, name: &[u8], tail: Line) -> u
 fn put_item(out: &mut [u8], at: usize, k: u8, used: u32, w: u32, name: &[u8]) -> usize
     ensures { left out.new result ≡ placed out.old at (walk.item_line k used w name.now) }
 {
-    if k == kind::VAR {
-        return put_name(out, at, data_head(b"var  ", used, 1), name, line_end());
+    match k {
+        kind::VAR => put_name(out, at, data_head(b"var  ", used, 1), name, line_end()),
+        kind::ARRAY => put_name(out, at, data_head(b"array", used, w), name, line_end()),
+        _ => {
+            let head = Line::empty().put_all(b"val                  ");
+            put_name(out, at, head, name, val_tail(w))
+        }
     }
-    if k == kind::ARRAY {
-        return put_name(out, at, data_head(b"array", used, w), name, line_end());
-    }
-    let head = text_lines::put_all(text_lines::empty(), b"val                  ");
-    put_name(out, at, head, name, val_tail(w))
 }
 
 // How many words it declares.
 fn item_words(k: u8, w: u32) -> u32
     ensures { result ≡ walk.item_words k w }
 {
-    if k == kind::VAR {
-        return 1;
+    match k {
+        kind::VAR => 1,
+        kind::ARRAY => w,
+        _ => 0,
     }
-    if k == kind::ARRAY { w } else { 0 }
 }
 
 // Its word, if it is a val.
 fn item_value(k: u8, w: u32) -> u32
     ensures { result ≡ walk.item_value k w }
 {
-    if k == kind::VAR {
-        return 0;
+    match k {
+        kind::VAR | kind::ARRAY => 0,
+        _ => w,
     }
-    if k == kind::ARRAY { 0 } else { w }
 }
 
 // The bytes of token t.
@@ -125,25 +117,29 @@ fn token_text<'a>(source: &'a [u8], places: &[u32], values: &[u32], t: usize) ->
     text(source, wide(number(places, t)), wide(number(values, t)))
 }
 
-// The word of the val that token t names, among so many names: their tokens and words stand in two arrays.
-fn val_word(
-    source: &[u8],
-    places: &[u32],
-    values: &[u32],
-    declared: &[u32],
-    words: &[u32],
-    count: usize,
-    t: usize,
-) -> u32
-    ensures { result ≡ val_found source.now places.now values.now declared.now words.now count t }
+// A name that is declared: its token, and its word if it is a val.
+#[derive(Clone, Copy)]
+struct Declared {
+    token: u32,
+    word: u32,
+}
+
+// Whether a name is spelt as this text.
+fn is_spelt(source: &[u8], places: &[u32], values: &[u32], d: Declared, text: &[u8]) -> bool
+    ensures { result ≡ same (text_at source.now places.now values.now d.token) text.now }
 {
-    let mut k = count;
-    while 0 < k {
-        let name = token_text(source, places, values, wide(number(declared, k - 1)));
-        if x_spelling::equal(name, token_text(source, places, values, t)) {
-            return number(words, k - 1);
+    x_spelling::equal(token_text(source, places, values, wide(d.token)), text)
+}
+
+// The word of the val that token t names: the latest of the names that is spelt so.
+fn val_word(source: &[u8], places: &[u32], values: &[u32], names: &[Declared], t: usize) -> u32
+    ensures { result ≡ val_found source.now places.now values.now (tokens_of names.now) (words_of names.now) (length names.now) t }
+{
+    let text = token_text(source, places, values, t);
+    for k in (0..names.len()).rev() {
+        if is_spelt(source, places, values, names[k], text) {
+            return names[k].word;
         }
-        k -= 1;
     }
     0
 }
@@ -154,17 +150,15 @@ fn constant_word(
     kinds: &[u8],
     places: &[u32],
     values: &[u32],
-    declared: &[u32],
-    words: &[u32],
-    count: usize,
+    names: &[Declared],
     j: usize,
 ) -> u32
-    ensures { result ≡ constant_found source.now kinds.now places.now values.now declared.now words.now count j }
+    ensures { result ≡ constant_found source.now kinds.now places.now values.now (tokens_of names.now) (words_of names.now) (length names.now) j }
 {
     if kind_at(kinds, j) == kind::NUMBER {
         return number(values, j);
     }
-    val_word(source, places, values, declared, words, count, j)
+    val_word(source, places, values, names, j)
 }
 
 // The lines of the names that the tokens declare, from the first specification to the last.
@@ -179,12 +173,12 @@ fn put_names(
     requires { Reads source.now kinds.now places.now values.now }
     ensures { left out.new result ≡ placed out.old at (walk.lines source.now kinds.now places.now values.now) }
 {
-    let mut declared = [0u32; 1024];
-    let mut words = [0u32; 1024];
+    let mut names = [Declared { token: 0, word: 0 }; 1024];
     let mut count: usize = 0;
     let mut used: u32 = 0;
     let mut end = at;
     let mut i: usize = 0;
+    // A `while`, since a specification's kind says how many tokens it has.
     while i < kinds.len() {
         let k = kind_at(kinds, i);
         if k == kind::COMMENT {
@@ -196,26 +190,13 @@ fn put_names(
             if kind::VAL < k {
                 return end;
             }
-            let w = constant_word(
-                source,
-                kinds,
-                places,
-                values,
-                &declared,
-                &words,
-                count,
-                i + 3,
-            );
-            end = put_item(
-                out,
-                end,
-                k,
-                used,
-                w,
-                token_text(source, places, values, i + 1),
-            );
-            declared[count] = (i + 1) as u32;
-            words[count] = item_value(k, w);
+            let w = constant_word(source, kinds, places, values, &names[..count], i + 3);
+            let text = token_text(source, places, values, i + 1);
+            end = put_item(out, end, k, used, w, text);
+            names[count] = Declared {
+                token: (i + 1) as u32,
+                word: item_value(k, w),
+            };
             count += 1;
             used += item_words(k, w);
             i += front_names_judge::width(k);
@@ -240,22 +221,6 @@ fn put_first(
     put_names(source, &kinds[..n], &places[..n], &values[..n], out, at)
 }
 
-// The same for the token arrays as they are.
-fn put_arrays(
-    source: &[u8],
-    kinds: &[u8; 1024],
-    places: &[u32; 1024],
-    values: &[u32; 1024],
-    n: usize,
-    out: &mut [u8],
-    at: usize,
-) -> usize
-    requires { TokensOf source.now kinds.now places.now values.now n }
-    ensures { left out.new result ≡ placed out.old at (names_of source.now) }
-{
-    put_first(source, kinds, places, values, n, out, at)
-}
-
 // The lines of the names that an accepted source declares, from a place of the buffer on, and the place after them.
 pub fn lines(source: &[u8], out: &mut [u8], at: usize) -> usize
     requires { IsAccepted source.now }
@@ -267,6 +232,6 @@ pub fn lines(source: &[u8], out: &mut [u8], at: usize) -> usize
     let s = x_tokens::tokens(source, &mut kinds, &mut places, &mut values);
     match s {
         Scanned::Refused(_, _) => at,
-        Scanned::Read(n) => put_arrays(source, &kinds, &places, &values, n, out, at),
+        Scanned::Read(n) => put_first(source, &kinds, &places, &values, n, out, at),
     }
 }

@@ -1,8 +1,10 @@
 -- Line, column and the shown line are what a reader takes them for; and the steps of the code. Laws; assumes nothing.
-use Rattle.std.specs.Prelude.{◌≡◌, refl, Bool, List, [], ◌∷◌, ◌++◌, map, ℕ, zero, suc, ◌+◌, ◌-◌, ◌≤◌, ◌<◌, min, eqb, ltb, ◌⊎◌, length, take, drop, get_or}
+use Rattle.std.specs.Prelude.{◌≡◌, ◌==◌, not, cond, filter, reverse, count_by, refl, Bool, List, [], ◌∷◌, ◌++◌, map, ℕ, zero, suc, ◌+◌, ◌-◌, ◌≤◌, ◌<◌, min, eqb, ltb, ◌⊎◌, length, take, drop, get_or}
 use Rattle.std.proofs.Common.{sym, ap, ◌∙◌, arith, add-one, eq-eqb, ne_eqb, eqb-true, ltb-true, ltb-false, inl, inr, ⊎_elim, length-append, length-take, length-drop, drop_of_length-le, take-suc, drop-cons, take_all, drop-drop, get_or-take, get_or-drop, ext_get_or, length-take-le}
 use Rattle.std.proofs.lemmas.Bool.{eqb-false}
-use Rattle.std.proofs.lemmas.List.{length-map, length-replicate, get_or_at}
+use Rattle.std.specs.List.{prefix_len, suffix_len}
+use Rattle.std.proofs.lemmas.List.{length-map, length-replicate, get_or_at, reverse-append, reverse-reverse}
+use Rattle.std.proofs.lemmas.List.Sums.{length-filter}
 use Rattle.std.proofs.Math.ListN.{get_or-append}
 use Rattle.std.proofs.Math.Seq.{drop-length, take-nil, drop-nil}
 use Rattle.text_lines.specs.Text.{fitted}
@@ -43,6 +45,41 @@ until_here s i h e = rw (drop-cons s i 0 h, eq-eqb (get_or s i 0) line_feed e)
 pub until_more : (s : List ℕ) (i : ℕ) → i < length s → (get_or s i 0 ≡ line_feed → ⊥) → until (drop i s) ≡ suc (until (drop (i + 1) s))
 unfolding until
 until_more s i h e = rw (drop-cons s i 0 h, ne_eqb (get_or s i 0) line_feed e, add-one)
+
+-- ── what the code counts ──
+
+abbrev Other : ℕ → Bool
+Other b = not (b == line_feed)
+
+feeds_filtered : (s : List ℕ) → length (filter (λ b. b == line_feed) s) ≡ feeds s
+unfolding feeds feed
+feeds_filtered [] = refl
+feeds_filtered (b ∷ s) =
+    by_test (λ (t : Bool). length (cond t (b ∷ filter (λ a. a == line_feed) s) (filter (λ a. a == line_feed) s)) ≡ pick t 1 0 + feeds s) (b == line_feed)
+    (λ _. omega (arith, feeds_filtered s)) (λ _. omega (arith, feeds_filtered s))
+
+pub feeds_counted : (s : List ℕ) → count_by (λ b. b == line_feed) s ≡ feeds s
+feeds_counted s = sym (length-filter (λ b. b == line_feed) s) ∙ feeds_filtered s
+
+pub until_counted : (s : List ℕ) → prefix_len Other s ≡ until s
+unfolding until
+until_counted [] = refl
+until_counted (b ∷ s) =
+    by_test (λ (t : Bool). cond (not t) (1 + prefix_len Other s) 0 ≡ pick t 0 (suc (until s))) (b == line_feed)
+    (λ _. refl) (λ _. omega (arith, until_counted s))
+
+-- by the bytes from the last to the first
+since_reversed : (s : List ℕ) → prefix_len Other s ≡ since (reverse s) 0
+unfolding since onward
+since_reversed [] = refl
+since_reversed (b ∷ s) =
+    by_test (λ (t : Bool). cond (not t) (1 + prefix_len Other s) 0 ≡ pick t 0 (since (reverse s) 0 + 1)) (b == line_feed)
+    (λ _. refl) (λ _. omega (arith, since_reversed s))
+    ∙ sym (since_behind (reverse s) 0 b)
+    ∙ ap (λ (l : List ℕ). since l 0) (sym (reverse-append (b ∷ []) s))
+
+pub since_counted : (s : List ℕ) → suffix_len Other s ≡ since s 0
+since_counted s = since_reversed (reverse s) ∙ ap (λ (l : List ℕ). since l 0) (reverse-reverse s)
 
 -- ── lists that grow at their end ──
 

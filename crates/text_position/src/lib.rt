@@ -1,7 +1,8 @@
 // Line and column of a place of a source, and its line as it is shown, with a caret below the place.
 #![tactic(auto)]
 
-ghost use Rattle.std.specs.Prelude.{◌≡◌, ◌++◌, map, ◌+◌, ◌≤◌, ◌<◌, min, length, take};
+ghost use Rattle.std.specs.Prelude.{◌≡◌, ◌==◌, not, ◌++◌, map, ◌+◌, ◌≤◌, ◌<◌, min, length, take, count_by};
+ghost use Rattle.std.specs.List.{prefix_len, suffix_len};
 ghost use Rattle.text_lines.specs.Text.{written, fitted};
 ghost use Rattle.text_position.specs.Position as spec;
 ghost use Rattle.text_position.specs.Position.{left_of, shown_line, caret_line};
@@ -14,115 +15,60 @@ const WIDTH: usize = 72;
 
 const HALF_WIDTH: usize = 36;
 
-// One line feed more, or none.
-fn feed(b: u8) -> usize
-    ensures { result ≡ spec.feed b }
-{
-    if b == LINE_FEED { 1 } else { 0 }
-}
-
 // How many line feeds there are.
 fn feeds(s: &[u8]) -> usize
-    ensures { (result ≡ spec.feeds s.now) × (result ≤ length s.now) }
+    ensures value { result ≡ count_by (λ b. b == 10) s.now }
+    ensures within { result ≤ length s.now }
 {
-    let mut n = 0;
-    let mut i = 0;
-    while i < s.len() {
-        n += feed(s[i]);
-        i += 1;
-    }
-    n
-}
-
-// The bytes after the last line feed, one byte further on.
-fn onward(n: usize, b: u8) -> usize
-    requires { n < 18446744073709551615 }
-    ensures { result ≡ spec.onward n b }
-{
-    if b == LINE_FEED { 0 } else { n + 1 }
+    s.iter().filter(|b| **b == LINE_FEED).count()
 }
 
 // How many bytes stand after the last line feed.
 fn since(s: &[u8]) -> usize
-    ensures { (result ≡ spec.since s.now 0) × (result ≤ length s.now) }
+    ensures value { result ≡ suffix_len (λ b. not (b == 10)) s.now }
+    ensures within { result ≤ length s.now }
 {
-    let mut n = 0;
-    let mut i = 0;
-    while i < s.len() {
-        n = onward(n, s[i]);
-        i += 1;
-    }
-    n
+    s.iter().rev().take_while(|b| **b != LINE_FEED).count()
 }
 
 // How many bytes stand before the first line feed.
 fn until(s: &[u8]) -> usize
-    ensures { (result ≡ spec.until s.now) × (result ≤ length s.now) }
+    ensures value { result ≡ prefix_len (λ b. not (b == 10)) s.now }
+    ensures within { result ≤ length s.now }
 {
-    let mut i = 0;
-    while i < s.len() {
-        if s[i] == LINE_FEED {
-            return i;
-        }
-        i += 1;
-    }
-    i
-}
-
-// A place past the end counts as the end.
-fn within(source: &[u8], place: usize) -> usize
-    ensures { result ≡ min place (length source.now) }
-{
-    if place < source.len() {
-        place
-    } else {
-        source.len()
-    }
+    s.iter().take_while(|b| **b != LINE_FEED).count()
 }
 
 // How many lines end before the place.
 pub fn lines_before(source: &[u8], place: usize) -> usize
     ensures { (result ≡ spec.feeds (take place source.now)) × (result ≤ place) }
 {
-    let at = within(source, place);
-    feeds(&source[..at])
+    feeds(&source[..place.min(source.len())])
 }
 
 // How many bytes of its line stand before the place.
 pub fn left_of(source: &[u8], place: usize) -> usize
     ensures { (result ≡ left_of source.now place) × (result ≤ place) }
 {
-    let at = within(source, place);
-    since(&source[..at])
+    since(&source[..place.min(source.len())])
 }
 
 // How many columns are cut off at the left.
 fn cut(left: usize) -> usize
     ensures { (result ≡ spec.cut left) × (result ≤ left) }
 {
-    if left < WIDTH {
-        return 0;
-    }
-    left - HALF_WIDTH
+    if left < WIDTH { 0 } else { left - HALF_WIDTH }
 }
 
 // A byte as it is shown.
 fn shown(b: u8) -> u8
     ensures { result ≡ spec.shown b }
 {
-    if b == b'\t' {
-        return b' ';
+    match b {
+        b'\t' | b'\r' => b' ',
+        b' '..=b'~' => b,
+        _ => b'?',
     }
-    if b == b'\r' {
-        return b' ';
-    }
-    if b < 32 {
-        return b'?';
-    }
-    if 126 < b {
-        return b'?';
-    }
-    b
 }
 
 // All bytes of a slice as they are shown, added to a line.
@@ -130,10 +76,8 @@ fn put_shown(line: Line, s: &[u8]) -> Line
     ensures { written result ≡ fitted (written line ++ map spec.shown s.now) }
 {
     let mut l = line;
-    let mut i = 0;
-    while i < s.len() {
-        l = text_lines::put(l, shown(s[i]));
-        i += 1;
+    for b in s {
+        l = l.put(shown(*b));
     }
     l
 }
@@ -143,10 +87,8 @@ pub fn put_spaces(line: Line, n: usize) -> Line
     ensures { written result ≡ fitted (written line ++ spec.spaces n) }
 {
     let mut l = line;
-    let mut i = 0;
-    while i < n {
-        l = text_lines::put(l, b' ');
-        i += 1;
+    for _ in 0..n {
+        l = l.put(b' ');
     }
     l
 }
@@ -156,24 +98,20 @@ fn shown_end(from: usize, end: usize) -> usize
     requires { from ≤ end }
     ensures { result ≡ min (from + spec.width) end }
 {
-    if end - from < WIDTH {
-        return end;
-    }
-    from + WIDTH
+    from + WIDTH.min(end - from)
 }
 
 // The place's line, as much of it as is shown, and a line feed.
 pub fn shown_line(source: &[u8], place: usize) -> Line
     ensures { written result ≡ shown_line source.now place }
 {
-    let at = within(source, place);
+    let at = place.min(source.len());
     let left = since(&source[..at]);
     let right = until(&source[at..]);
     let off = cut(left);
     let from = at - left + off;
     let end = shown_end(from, at + right);
-    let shown = put_shown(text_lines::empty(), &source[from..end]);
-    text_lines::put(shown, LINE_FEED)
+    put_shown(Line::empty(), &source[from..end]).put(LINE_FEED)
 }
 
 // A caret below the place's column, and a line feed.
@@ -181,7 +119,7 @@ pub fn caret_line(source: &[u8], place: usize) -> Line
     ensures { written result ≡ caret_line source.now place }
 {
     let left = left_of(source, place);
-    let spaces = put_spaces(text_lines::empty(), left - cut(left));
-    let caret = text_lines::put(spaces, b'^');
-    text_lines::put(caret, LINE_FEED)
+    put_spaces(Line::empty(), left - cut(left))
+        .put(b'^')
+        .put(LINE_FEED)
 }

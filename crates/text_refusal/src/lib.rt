@@ -31,7 +31,7 @@ pub struct Near {
 fn line(text: &[u8]) -> Line
     ensures { written result ≡ fitted text.now }
 {
-    text_lines::put_all(text_lines::empty(), text)
+    Line::empty().put_all(text)
 }
 
 // The sentences of 1 to 5 and 7.
@@ -103,8 +103,7 @@ fn near_in(kinds: &[u8], places: &[u32], n: usize, place: u32) -> Near
 {
     let mut before = NO_TOKEN;
     let mut previous = NO_TOKEN;
-    let mut i = 0;
-    while i < n {
+    for i in 0..n {
         let met = kind_at(kinds, i);
         if place <= number(places, i) {
             return Near {
@@ -115,20 +114,12 @@ fn near_in(kinds: &[u8], places: &[u32], n: usize, place: u32) -> Near
         }
         before = previous;
         previous = met;
-        i += 1;
     }
     Near {
         before,
         previous,
         met: NO_TOKEN,
     }
-}
-
-// The same in the token arrays as they are.
-fn near_arrays(kinds: &[u8; 1024], places: &[u32; 1024], n: usize, place: u32) -> Near
-    ensures { (vs : List ℕ) → result ≡ near_in (entries kinds.now places.now vs 0 n) place no_token no_token }
-{
-    near_in(kinds, places, n, place)
 }
 
 // The same in a source.
@@ -145,7 +136,7 @@ fn met_at(source: &[u8], place: u32) -> Near
             previous: NO_TOKEN,
             met: NO_TOKEN,
         },
-        Scanned::Read(n) => near_arrays(&kinds, &places, n, place),
+        Scanned::Read(n) => near_in(&kinds, &places, n, place),
     }
 }
 
@@ -166,19 +157,19 @@ fn starts(k: u8) -> bool
 }
 
 // What may be meant at the end of the source.
+#[tactic(auto, unfolding(crate::specs::Refusal::end_hint))]
 fn end_hint(p: u8) -> Line
     ensures { written result ≡ fitted (spec.end_hint p) }
 {
-    if p == NO_TOKEN {
-        return line(b"a program has one process at least: skip does nothing\n");
+    match p {
+        NO_TOKEN => line(b"a program has one process at least: skip does nothing\n"),
+        kind::SEMICOLON => line(b"after a ; a process or a specification is missing\n"),
+        _ => line(b"perhaps an else, a process or a closing bracket is missing\n"),
     }
-    if p == kind::SEMICOLON {
-        return line(b"after a ; a process or a specification is missing\n");
-    }
-    line(b"perhaps an else, a process or a closing bracket is missing\n")
 }
 
 // At a = that stands behind no operator.
+#[tactic(auto, unfolding(crate::specs::Refusal::equal_hint))]
 fn equal_hint(b: u8, p: u8) -> Line
     ensures { written result ≡ fitted (spec.equal_hint b p) }
 {
@@ -192,6 +183,7 @@ fn equal_hint(b: u8, p: u8) -> Line
 }
 
 // At an operator.
+#[tactic(auto, unfolding(crate::specs::Refusal::operator_hint))]
 fn operator_hint(n: Near) -> Line
     ensures { written result ≡ fitted (spec.operator_hint n) }
 {
@@ -209,6 +201,7 @@ fn operator_hint(n: Near) -> Line
 }
 
 // At a name.
+#[tactic(auto, unfolding(crate::specs::Refusal::name_hint))]
 fn name_hint(p: u8) -> Line
     ensures { written result ≡ fitted (spec.name_hint p) }
 {
@@ -219,30 +212,24 @@ fn name_hint(p: u8) -> Line
 }
 
 // At another token.
+#[tactic(auto, unfolding(crate::specs::Refusal::token_hint))]
 fn token_hint(p: u8, m: u8) -> Line
     ensures { written result ≡ fitted (spec.token_hint p m) }
 {
-    if m == kind::SEMICOLON {
-        return line(
+    match m {
+        kind::SEMICOLON => line(
             b"perhaps an if without its else, or processes without { and }; no ; stands after the last process\n",
-        );
+        ),
+        kind::CLOSE_BRACE => line(b"perhaps a ; before the } or an if without its else\n"),
+        kind::COMMA => line(b"each name has a specification of its own: var a; var b;\n"),
+        kind::COMMENT => line(b"a comment stands before a specification or a process only\n"),
+        kind::NAME => name_hint(p),
+        _ => Line::empty(),
     }
-    if m == kind::CLOSE_BRACE {
-        return line(b"perhaps a ; before the } or an if without its else\n");
-    }
-    if m == kind::COMMA {
-        return line(b"each name has a specification of its own: var a; var b;\n");
-    }
-    if m == kind::COMMENT {
-        return line(b"a comment stands before a specification or a process only\n");
-    }
-    if m == kind::NAME {
-        return name_hint(p);
-    }
-    text_lines::empty()
 }
 
 // By the token at the place.
+#[tactic(auto, unfolding(crate::specs::Refusal::hint))]
 fn hint(n: Near) -> Line
     ensures { written result ≡ fitted (spec.hint n) }
 {

@@ -5,14 +5,22 @@ ghost use Rattle.std.specs.Prelude.{◌≡◌};
 ghost use Rattle.text_lines.specs.Text.{written};
 ghost use Rattle.text_report.specs.Report.{answer_lines, report_of};
 
-use text_lines::Line;
+use text_lines::{Answer, Line};
 use translate_source::Translation;
 
 // The seven lines of a translation's answer.
 pub fn answer_lines(t: Translation) -> Line
     ensures { written result ≡ answer_lines t }
 {
-    text_lines::summary(t.status, t.place, t.tokens, t.rows, t.data, t.depth, t.code)
+    text_lines::summary(Answer {
+        status: t.status,
+        place: t.place,
+        tokens: t.tokens,
+        rows: t.rows,
+        data: t.data,
+        depth: t.depth,
+        code: t.code,
+    })
 }
 
 // The report of a source: it is translated into buffers that have room for every source.

@@ -24,16 +24,14 @@ pub fn put_line(out: &mut [u8], at: usize, name: &[u8], tail: Line) -> usize
 fn variable_tail(w: u32) -> Line
     ensures { written result ≡ text.entry (ascii "=") w }
 {
-    text_lines::entry(text_lines::empty(), b"=", w)
+    Line::empty().entry(b"=", w)
 }
 
 // What stands behind the name of an array, for element i.
 fn element_tail(i: u32, w: u32) -> Line
     ensures { written result ≡ spec.subscripted i w }
 {
-    let opened = text_lines::put(text_lines::empty(), b'[');
-    let counted = text_lines::decimal(opened, i);
-    text_lines::entry(counted, b"]=", w)
+    Line::empty().put(b'[').decimal(i).entry(b"]=", w)
 }
 
 // The line of a var whose word is word k.
@@ -48,11 +46,9 @@ pub fn elements(out: &mut [u8], at: usize, words: &[u32], first: u32, n: u32, na
     ensures { left out.new result ≡ placed out.old at (spec.element_lines words.now first name.now n) }
 {
     let mut end = at;
-    let mut i: u32 = 0;
-    while i < n {
+    for i in 0..n {
         let w = word_at(words, first as usize + i as usize);
         end = put_line(out, end, name, element_tail(i, w));
-        i += 1;
     }
     end
 }

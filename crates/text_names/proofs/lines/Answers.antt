@@ -1,9 +1,11 @@
 -- `text_names::lines` meets its contract: an accepted source's tokens are read, and the arrays hold them.
 -- Assumes nothing.
-use mathlib.Core.Path.{ap, ◌∙◌}
+use mathlib.Core.Path.{◌≡◌, ap, ◌∙◌}
 use Rattle.x_tokens.specs.TokenList.{answer}
 use Rattle.x_tokens.specs.declared.Scanned.{Scanned}
-use Rattle.text_names.specs.Tokens.{not_refused}
+use lib.ListN.{length}
+use borrow.Author.Rules.{rules}
+use Rattle.text_names.specs.Tokens.{TokensOf, not_refused, first_tokens}
 use Rattle.text_names.proofs.lines.Goals as goal
 
 pub returns-in-Refused : goal.returns-in-Refused
@@ -11,3 +13,12 @@ returns-in-Refused c =
     let t = c.tokens-s in
     let is = c.in-Refused.is in
     absurd (not_refused c.args.source.now _ _ c.requires (t.ensures.source_value ∙ ap (λ (r : Scanned). answer r t.new.kinds t.new.places t.new.values) is))
+
+pub put_first-requires : goal.put_first-requires
+put_first-requires c =
+    let t = c.tokens-s.new in
+    let tokens : TokensOf c.args.source.now t.kinds t.places t.values c.in-Read.n = search rules in
+    let k : length t.kinds ≡ 1024 = search rules in
+    let p : length t.places ≡ 1024 = search rules in
+    let v : length t.values ≡ 1024 = search rules in
+    first_tokens c.args.source.now t.kinds t.places t.values c.in-Read.n k p v tokens

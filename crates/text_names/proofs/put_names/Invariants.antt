@@ -1,13 +1,17 @@
+-- The loop's invariant of `text_names::put_names`: before token `i`, what is declared so far is put and remembered. Assumes nothing.
 use mathlib.Core.Path.{◌≡◌}
 use Prim.Native.Nat.{◌-◌, ◌≤◌}
 use lib.ListN.{length}
+use Rattle.text_names.specs.NamesSoFar.{tokens_of, words_of}
 use Rattle.text_names.specs.Walk.{Walking}
 use Rattle.text_names.proofs.put_names.Given as goal
 
 abbrev pub invariant-loop-i : goal.invariant-loop-i
-invariant-loop-i l =
-    (length l.declared ≡ 1024) × ((length l.words ≡ 1024) × ((length l.out ≡ length l.initial.out) × ((l.count ≤ l.i) × Walking l.source l.kinds l.places l.values l.initial.out l.at l.declared l.words l.out l.end l.i l.count l.used)))
+invariant-loop-i l = record {
+  room : length l.names ≡ 1024;
+  few : l.count ≤ l.i;
+  walking : Walking l.source l.kinds l.places l.values l.initial.out l.at (tokens_of l.names) (words_of l.names) l.out l.end l.i l.count l.used;
+}
 
 abbrev pub decreases-loop-i : goal.decreases-loop-i
-decreases-loop-i l =
-    length l.kinds - l.i
+decreases-loop-i l = length l.kinds - l.i

@@ -19,7 +19,7 @@ pub returns : goal.returns
 returns c =
     let x = c.args in
     let fits : x.w < 4294967296 = search rules in
-    let e : 4294967295 - x.w + 1 ≡ 4294967296 - x.w = omega arith in
-    joined (written x.line) (45 ∷ []) (decimal (4294967295 - x.w + 1)) _ _ c.put-sign.ensures c.decimal-2.ensures
+    let e : c.wrapping_neg.result ≡ 4294967296 - x.w = omega (arith, c.wrapping_neg.ensures) in
+    joined (written x.line) (45 ∷ []) (decimal c.wrapping_neg.result) _ _ c.put.ensures c.decimal-2.ensures
     ∙ ap (λ (m : ℕ). fitted (written x.line ++ (45 ∷ decimal m))) e
     ∙ ap (λ (r : List ℕ). fitted (written x.line ++ r)) (signed_high x.w c.if-w-lt2147483648.false)

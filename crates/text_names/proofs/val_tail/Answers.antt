@@ -14,6 +14,6 @@ pub returns : goal.returns
 returns c =
     let x = c.args in
     let e = written c.empty.result in
-    let l = written c.put_all-equals.result in
-    let all = joined e (ascii " = ") (spec.signed x.w ++ (10 ∷ [])) l _ c.put_all-equals.ensures (joined l (spec.signed x.w) (10 ∷ []) _ _ c.put_signed-valued.ensures c.put.ensures) in
+    let l = written c.put_all.result in
+    let all = joined e (ascii " = ") (spec.signed x.w ++ (10 ∷ [])) l _ c.put_all.ensures (joined l (spec.signed x.w) (10 ∷ []) _ _ c.put_signed.ensures c.put.ensures) in
     all ∙ ap (λ (r : List ℕ). fitted (r ++ spec.val_tail x.w)) c.empty.ensures ∙ tail_fits x.w

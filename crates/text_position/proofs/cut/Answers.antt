@@ -11,6 +11,6 @@ pub returns-then-left-lt-WIDTH : goal.returns-then-left-lt-WIDTH
 unfolding spec.cut
 returns-then-left-lt-WIDTH c = (pick_t _ _ _ _ (lt-ltb _ _ c.if-left-lt-WIDTH.true) refl, omega arith)
 
-pub returns : goal.returns
+pub returns-else-left-lt-WIDTH : goal.returns-else-left-lt-WIDTH
 unfolding spec.cut
-returns c = (pick_f _ _ _ _ (le-ltb _ _ c.if-left-lt-WIDTH.false) refl, omega arith)
+returns-else-left-lt-WIDTH c = (pick_f _ _ _ _ (le-ltb _ _ c.if-left-lt-WIDTH.false) refl, omega arith)

@@ -1,15 +1,10 @@
--- `text_position::put_shown` meets its contract. The loop's invariant: the bytes before `i` were added as they are shown.
--- Assumes nothing.
-use Prim.Native.Nat.{◌≤◌, ◌-◌}
+-- The loop's invariant of `text_position::put_shown`: the bytes so far were added as they are shown. Assumes nothing.
 use mathlib.Core.Path.{◌≡◌}
 use mathlib.Core.List.{◌++◌, map}
-use lib.ListN.{length, take}
+use lib.ListN.{take}
 use Rattle.text_lines.specs.Text.{written, fitted}
 use Rattle.text_position.specs.Position as spec
 use Rattle.text_position.proofs.put_shown.Given as goal
 
-abbrev pub invariant-loop-i : goal.invariant-loop-i
-invariant-loop-i l = (l.i ≤ length l.s) × (written l.l ≡ fitted (written l.initial.l ++ map spec.shown (take l.i l.s)))
-
-abbrev pub decreases-loop-i : goal.decreases-loop-i
-decreases-loop-i l = length l.s - l.i
+abbrev pub invariant-loop-b : goal.invariant-loop-b
+invariant-loop-b l = written l.l ≡ fitted (written l.initial.l ++ map spec.shown (take l.b-index l.s))

@@ -10,6 +10,3 @@ use Rattle.text_refusal.proofs.near_in.Given as goal
 abbrev pub invariant-loop-i : goal.invariant-loop-i
 invariant-loop-i l = (vs : List ℕ) → near_in (entries l.kinds l.places vs l.i (l.n - l.i)) l.place l.before l.previous ≡ near_in
     (entries l.kinds l.places vs 0 l.n) l.place no_token no_token
-
-abbrev pub decreases-loop-i : goal.decreases-loop-i
-decreases-loop-i l = l.n - l.i

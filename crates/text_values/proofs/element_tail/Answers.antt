@@ -13,8 +13,8 @@ pub returns : goal.returns
 returns c =
     let x = c.args in
     let e = written c.empty.result in
-    let o = written c.put-opened.result in
+    let o = written c.put.result in
     let tail = text.entry (ascii "]=") x.w in
-    joined e (ascii "[") (text.decimal x.i ++ tail) o _ c.put-opened.ensures (joined o (text.decimal x.i) tail _ _ c.decimal-counted.ensures c.entry.ensures)
+    joined e (ascii "[") (text.decimal x.i ++ tail) o _ c.put.ensures (joined o (text.decimal x.i) tail _ _ c.decimal.ensures c.entry.ensures)
     ∙ ap (λ (l : List ℕ). fitted (l ++ (ascii "[" ++ (text.decimal x.i ++ tail)))) c.empty.ensures
     ∙ element_fits x.i x.w

@@ -1,4 +1,4 @@
--- `text_values::elements` meets its contract. The loop's invariant: the lines of the elements before `i` are put. Assumes nothing.
+-- `text_values::elements` meets its contract: a line more behind those that are put. Assumes nothing.
 use mathlib.Core.Path.{◌≡◌, refl, ap, ◌∙◌}
 use mathlib.Core.List.{List, ◌++◌}
 use Prim.Native.Nat.{ℕ, ◌+◌}
@@ -13,7 +13,7 @@ use Rattle.text_values.proofs.elements.Goals as goal
 
 pub loop-i-init : goal.loop-i-init
 unfolding element_lines
-loop-i-init c = (omega arith, refl, none c.args.out.now c.args.at)
+loop-i-init c = none c.args.out.now c.args.at
 
 pub loop-i-preserved : goal.loop-i-preserved
 unfolding element_lines
@@ -23,8 +23,5 @@ loop-i-preserved c =
     let p = c.put_line-end in
     let tail = c.element_tail in
     let line = element_line x.name.now l.i (get_or x.words.now (x.first + l.i) 0) in
-    let is : x.name.now ++ written tail.result ≡ line = ap (λ (r : List ℕ). x.name.now ++ r) (tail.ensures ∙ ap (subscripted l.i) c.word_at-w.ensures) in (
-      omega arith,
-      kept l.out p.new.out l.end p.result (x.name.now ++ written tail.result) p.ensures ∙ l.invariant.1,
-      p.ensures ∙ ap (placed l.out l.end) is ∙ then _ _ _ _ (element_lines x.words.now x.first x.name.now l.i) line l.invariant.2 ∙ rw add-one refl,
-    )
+    let is : x.name.now ++ written tail.result ≡ line = ap (λ (r : List ℕ). x.name.now ++ r) (tail.ensures ∙ ap (subscripted l.i) c.word_at-w.ensures) in
+    p.ensures ∙ ap (placed l.out l.end) is ∙ then _ _ _ _ (element_lines x.words.now x.first x.name.now l.i) line l.invariant ∙ rw add-one refl

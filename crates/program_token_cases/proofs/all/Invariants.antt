@@ -1,9 +1,0 @@
--- i is at most the number of tokens.
-use Rattle.std.proofs.Common.{◌-◌, ◌≤◌}
-use Rattle.program_token_cases.proofs.all.Given as goal
-
-abbrev pub invariant-loop-i : goal.invariant-loop-i
-invariant-loop-i g l = l.i ≤ l.n
-
-abbrev pub decreases-loop-i : goal.decreases-loop-i
-decreases-loop-i g l = l.n - l.i
