@@ -1,7 +1,6 @@
 // Sources of document 01 and of docs/DECISIONS.md as tokens (kind:place:value) or as a refusal, written to standard output.
 #![tactic(auto)]
 
-use x_tokens::Scanned;
 
 fn text(rt: &impl Print, s: &[u8]) {
     let _ = rt.write_all(s);
@@ -57,13 +56,13 @@ fn case(rt: &impl Print, source: &[u8]) {
     text(rt, source);
     text(rt, b" ->");
     match answer {
-        Scanned::Refused(k, place) => {
+        Err(refusal) => {
             text(rt, b" refused ");
-            number(rt, k as u64);
+            number(rt, u32::from(refusal.reason) as u64);
             text(rt, b" at ");
-            number(rt, place as u64);
+            number(rt, refusal.place as u64);
         }
-        Scanned::Read(n) => all(rt, &kinds, &places, &values, n),
+        Ok(n) => all(rt, &kinds, &places, &values, n),
     }
     text(rt, b"\n");
 }

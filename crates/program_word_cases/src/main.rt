@@ -1,8 +1,6 @@
 // How names are looked up among the reserved words, written to standard output: with how many each is compared in full, and what it stands for.
 #![tactic(auto)]
 
-use x_spelling::Found;
-
 // The longest name here has one byte more than a name may have.
 const LONGEST: usize = 33;
 
@@ -22,13 +20,13 @@ fn shown(rt: &impl Print, w: &[u8]) {
     number(rt, looked.compared as u64);
     let found = looked.found;
     match found {
-        Found::Reserved(token) => {
+        Some(token) => {
             text(rt, b" reserved ");
             number(rt, token.kind as u64);
             text(rt, b":");
             number(rt, token.value as u64);
         }
-        Found::Free => text(rt, b" name"),
+        None => text(rt, b" name"),
     }
     text(rt, b"\n");
 }

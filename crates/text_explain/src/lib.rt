@@ -12,7 +12,7 @@ ghost use Rattle.text_explain.specs.ExplainLaws.{Small};
 use text_buffer::{append, append_line};
 use text_lines::Line;
 use translate_source::Translation;
-use x_tokens::refusal;
+use x_tokens::refusal::Reason;
 
 // The sizes of an accepted source, a line each.
 fn sizes(t: Translation) -> Line
@@ -40,13 +40,13 @@ fn put_accepted(source: &[u8], t: Translation, out: &mut [u8]) -> usize
 fn placeless(n: u32) -> bool
     ensures { result ≡ spec.placeless n }
 {
-    if n == refusal::LONG_SOURCE {
+    if n == Reason::LongSource as u32 {
         return true;
     }
-    if n == refusal::DEEP_PROGRAM {
+    if n == Reason::DeepProgram as u32 {
         return true;
     }
-    refusal::SHORT_TABLE <= n
+    Reason::ShortTable as u32 <= n
 }
 
 // Line and column of a place.

@@ -16,7 +16,6 @@ use front_read_expressions::kind_at;
 use text_buffer::{append, append_line};
 use text_lines::Line;
 use x_spelling::kind;
-use x_tokens::Scanned;
 
 const COLUMNS: usize = 7;
 
@@ -266,7 +265,7 @@ pub fn lines(source: &[u8], out: &mut [u8], at: usize) -> usize
     let mut values = [0u32; 1024];
     let s = x_tokens::tokens(source, &mut kinds, &mut places, &mut values);
     match s {
-        Scanned::Refused(_, _) => at,
-        Scanned::Read(n) => put_arrays(source, &kinds, &places, &values, n, out, at),
+        Err(_) => at,
+        Ok(n) => put_arrays(source, &kinds, &places, &values, n, out, at),
     }
 }
