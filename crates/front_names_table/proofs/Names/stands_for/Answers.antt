@@ -1,13 +1,13 @@
--- `front_names_table::stands_for` meets its contract. The invariant: the name stands for what it stands for among the first k names.
+-- `front_names_table::Names::stands_for` meets its contract. The invariant: the name stands for what it stands for among the first k names.
 use mathlib.Core.Path.{sym, ap, ◌∙◌}
 use Prim.Native.Nat.{◌-◌}
-use Rattle.front_names_table.specs.View.{arrays, meant, bare, seen_at, lookup_found, lookup_next, lookup_none}
-use Rattle.front_names_table.proofs.stands_for.Goals as goal
+use Rattle.front_names_table.specs.View.{meant, bare, seen_at, lookup_found, lookup_next, lookup_none}
+use Rattle.front_names_table.specs.Held.{held}
+use Rattle.front_names_table.proofs.Names.stands_for.Goals as goal
 
 pub returns-then-named : goal.returns-then-named
 returns-then-named c =
-    λ sizes. let l = c.loop-k in let x = c.args in
-    let t = arrays x.name_places.now x.name_lengths.now x.name_rows.now x.sorts.now x.words.now sizes in
+    λ sizes. let l = c.loop-k in let t = held c.args.self.now sizes in
     ap meant c.meaning_at.ensures ∙ seen_at t (l.k - 1)
     ∙ ap bare (sym (l.invariant sizes ∙ lookup_found _ _ t l.k c.loop-k-test.true (sym c.named.ensures ∙ c.if-named.true)))
 
