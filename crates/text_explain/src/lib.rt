@@ -37,16 +37,13 @@ fn put_accepted(source: &[u8], t: Translation, out: &mut [u8]) -> usize
 }
 
 // Numbers whose refusal concerns the source as a whole.
+#[tactic(auto, unfolding(crate::specs::Explain::placeless))]
 fn placeless(n: u32) -> bool
     ensures { result ≡ spec.placeless n }
 {
-    if n == Reason::LongSource as u32 {
-        return true;
-    }
-    if n == Reason::DeepProgram as u32 {
-        return true;
-    }
-    Reason::ShortTable as u32 <= n
+    n == Reason::LongSource as u32
+        || n == Reason::DeepProgram as u32
+        || Reason::ShortTable as u32 <= n
 }
 
 // Line and column of a place.

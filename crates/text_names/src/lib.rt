@@ -11,7 +11,7 @@ ghost use Rattle.text_names.specs.Walk.{val_found, constant_found, Reads};
 ghost use Rattle.text_names.specs.Tokens.{IsAccepted, TokensOf, First};
 ghost use Rattle.text_names.specs.Names.{right, data_head, val_tail, names_of};
 
-use front_names_table::{number, text, wide};
+use front_names_table::{number, text};
 use front_read_expressions::kind_at;
 use text_buffer::{append, append_line};
 use text_lines::Line;
@@ -121,7 +121,11 @@ fn item_value(k: u8, w: u32) -> u32
 fn token_text<'a>(source: &'a [u8], places: &[u32], values: &[u32], t: usize) -> &'a [u8]
     ensures { result.now ≡ text_at source.now places.now values.now t }
 {
-    text(source, wide(number(places, t)), wide(number(values, t)))
+    text(
+        source,
+        number(places, t) as usize,
+        number(values, t) as usize,
+    )
 }
 
 // The word of the val that token t names, among so many names: their tokens and words stand in two arrays.
@@ -138,7 +142,7 @@ fn val_word(
 {
     let mut k = count;
     while 0 < k {
-        let name = token_text(source, places, values, wide(number(declared, k - 1)));
+        let name = token_text(source, places, values, number(declared, k - 1) as usize);
         if x_spelling::equal(name, token_text(source, places, values, t)) {
             return number(words, k - 1);
         }

@@ -35,6 +35,7 @@ fn line(text: &[u8]) -> Line
 }
 
 // The sentences of 1 to 5 and 7.
+#[tactic(auto, unfolding(crate::specs::Refusal::early_sentence))]
 fn early_sentence(n: u32) -> Line
     ensures { written result ≡ fitted (spec.early_sentence n) }
 {
@@ -61,6 +62,7 @@ fn early_sentence(n: u32) -> Line
 }
 
 // The sentences of 8 to 14.
+#[tactic(auto, unfolding(crate::specs::Refusal::late_sentence))]
 fn late_sentence(n: u32) -> Line
     ensures { written result ≡ fitted (spec.late_sentence n) }
 {

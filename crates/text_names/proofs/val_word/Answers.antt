@@ -14,7 +14,7 @@ returns-then-equal c =
     let k = c.loop-k.k in
     let text = text_at x.source.now x.places.now x.values.now in
     let is : same (text (get_or x.declared.now (k - 1) 0)) (text x.t) ≡ true =
-    (λ j. same ((ap text (sym c.number.ensures ∙ sym c.wide.ensures) ∙ sym c.token_text-name.ensures) j) (sym c.token_text.ensures j)) ∙ sym c.equal.ensures ∙ c.if-equal.true in
+    (λ j. same ((ap text (sym c.number.ensures) ∙ sym c.token_text-name.ensures) j) (sym c.token_text.ensures j)) ∙ sym c.equal.ensures ∙ c.if-equal.true in
     c.number-then-equal.ensures ∙ sym (c.loop-k.invariant ∙ found_here _ _ _ x.declared.now x.words.now (text x.t) k c.loop-k-test.true is)
 
 pub loop-k-preserved : goal.loop-k-preserved
@@ -23,7 +23,7 @@ loop-k-preserved c =
     let k = c.loop-k.k in
     let text = text_at x.source.now x.places.now x.values.now in
     let is : same (text (get_or x.declared.now (k - 1) 0)) (text x.t) ≡ false =
-    (λ j. same ((ap text (sym c.number.ensures ∙ sym c.wide.ensures) ∙ sym c.token_text-name.ensures) j) (sym c.token_text.ensures j)) ∙ sym c.equal.ensures ∙ c.if-equal.false in
+    (λ j. same ((ap text (sym c.number.ensures) ∙ sym c.token_text-name.ensures) j) (sym c.token_text.ensures j)) ∙ sym c.equal.ensures ∙ c.if-equal.false in
     c.loop-k.invariant ∙ found_next _ _ _ x.declared.now x.words.now (text x.t) k c.loop-k-test.true is
 
 pub returns : goal.returns
