@@ -32,11 +32,7 @@ fn constant_at(source: &[u8], tokens: Tokens, names: &Names, j: usize) -> Result
     if kind_at(tokens.kinds, j) == kind::NUMBER {
         return Ok(number(tokens.values, j));
     }
-    constant_of(names.stands_for(
-        source,
-        number(tokens.places, j),
-        number(tokens.values, j),
-    ))
+    constant_of(names.stands_for(source, number(tokens.places, j), number(tokens.values, j)))
 }
 
 // A name of n bytes at p and its item into the name table, and the item's row, if it has one, into the syntax table.

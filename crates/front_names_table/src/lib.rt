@@ -76,6 +76,7 @@ impl Names {
     }
 
     // The name at k is the n bytes at p.
+    #[tactic(auto, using(x_spelling::specs::Runs::same_pointwise))]
     fn named(&self, source: &[u8], k: usize, p: u32, n: u32) -> bool
         ensures { result ≡ same (views.text source.now (get_or self.now.places k 0) (get_or self.now.lengths k 0))
             (views.text source.now p n) }
@@ -86,7 +87,7 @@ impl Names {
             number(&self.lengths, k) as usize,
         );
         let b = text(source, p as usize, n as usize);
-        x_spelling::equal(a, b)
+        a == b
     }
 
     fn meaning_at(&self, k: usize) -> Meaning

@@ -1,7 +1,6 @@
 // Sources of document 01 and of docs/DECISIONS.md as tokens (kind:place:value) or as a refusal, written to standard output.
 #![tactic(auto)]
 
-
 fn text(rt: &impl Print, s: &[u8]) {
     let _ = rt.write_all(s);
 }

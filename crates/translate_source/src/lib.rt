@@ -22,7 +22,7 @@ use translate_image::image;
 use x_program::row;
 use x_tokens::refusal::Refusal;
 
-// A record with a number, as C's out words and the theorems have it (`gutilamboy_translate_c`, `Translates` of theorem_demands): no Result.
+// A record with a number, as C's out words and the theorems have it (`gutilamboy::translate`, `Translates` of theorem_demands): no Result.
 // The answer: document 01's number and place, 0 and 0 where the source is accepted, and the counts, all 0 where it is refused.
 #[derive(Drop)]
 pub struct Translation {
@@ -72,12 +72,7 @@ fn fill_code(rows: &[u32], count: usize, code: &mut [u8]) -> usize
 }
 
 // An accepted program: the rows that the table is to have stand in `rows`.
-fn accept(
-    rows: &[u32; 4096],
-    accepted: Accepted,
-    table: &mut [u32],
-    code: &mut [u8],
-) -> Translation
+fn accept(rows: &[u32; 4096], accepted: Accepted, table: &mut [u32], code: &mut [u8]) -> Translation
     requires { (q : tree.Program) × Parts rows.now (length table.old) (length code.old) accepted.tokens accepted.rows accepted.words accepted.depth q }
     ensures { (q : tree.Program) → Parts rows.now (length table.old) (length code.old) accepted.tokens accepted.rows accepted.words accepted.depth q
         → left result table.new code.new ≡ translated table.old code.old (front.accepted accepted.tokens q) }

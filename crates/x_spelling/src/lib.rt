@@ -140,6 +140,7 @@ pub fn numeral(s: &[u8], base: u64, i: usize) -> u64
     a
 }
 
+// A function, since tests/all/words.rs counts its calls (`every_comparison_is_counted`).
 #[tactic(auto, using(crate::specs::Runs::same_pointwise))]
 pub fn equal(a: &[u8], b: &[u8]) -> bool
     ensures { result ≡ same a.now b.now }

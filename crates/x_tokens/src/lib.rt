@@ -214,14 +214,14 @@ fn lexeme_at(s: &[u8], i: usize) -> Lexeme
     symbol(b, byte(s, i, 1))
 }
 
-// The tokens of a source that is not too long, into arrays of 1,024 entries.
+// The tokens of a source that is not too long.
 fn scan(
     source: &[u8],
-    kinds: &mut [u8],
-    places: &mut [u32],
-    values: &mut [u32],
+    kinds: &mut [u8; 1024],
+    places: &mut [u32; 1024],
+    values: &mut [u32; 1024],
 ) -> Result<usize, Refusal>
-    requires { (length source.now ≤ 16384) × ((length kinds.old ≡ 1024) × ((length places.old ≡ 1024) × (length values.old ≡ 1024))) }
+    requires { length source.now ≤ 16384 }
     ensures source_value { outcome source.now ≡ answer result kinds.new places.new values.new }
     ensures few { Few result }
 {
