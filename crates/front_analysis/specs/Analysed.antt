@@ -1,5 +1,5 @@
 -- What the front end's code answers and leaves in the syntax table, from what the source comes to. Definitions.
-use Rattle.std.specs.Prelude.{◌≡◌, List, ℕ}
+use Rattle.std.specs.Prelude.{◌≡◌, List, ℕ, Result, Ok, Err}
 use Rattle.x_tokens.specs.TokenList as token
 use Rattle.x_tokens.specs.TokenList.{Entry}
 use Rattle.x_grammar.specs.Automaton.{reads}
@@ -9,8 +9,9 @@ use Rattle.x_program.specs.Rows.{table_of, row_count}
 use Rattle.x_program.specs.TableReadBack.{Holds}
 use Rattle.x_verdict.specs.Symbols.{symbols}
 use Rattle.x_verdict.specs.Front.{Outcome, refused, accepted, parsed}
-use Rattle.front_analysis.specs.declared.Analysis.{Analysis}
-use Rattle.front_analysis.specs.declared.Analysis.TheVariants.{Refused, Accepted}
+use Rattle.x_tokens.specs.Refusals.{number}
+use Rattle.x_tokens.specs.declared.refusal.Refusal.{Refusal}
+use Rattle.front_analysis.specs.declared.Accepted.{Accepted}
 
 -- accepted: the program, its counts, and its rows in the table
 pub record Found (o : Outcome) (t : List ℕ) (tokens rows words depth : ℕ) : Type 0 where
@@ -21,10 +22,10 @@ pub record Found (o : Outcome) (t : List ℕ) (tokens rows words depth : ℕ) : 
   pub depth_is : depth ≡ deepest tree.body
   pub table : Holds t 0 (table_of tree)
 
-abbrev pub Analysed : Outcome → List ℕ → Analysis → Type 0
-Analysed o t (Refused n p) = o ≡ refused n p
-Analysed o t (Accepted tokens rows words depth) = Found o t tokens rows words depth
+abbrev pub Analysed : Outcome → List ℕ → Result Accepted Refusal → Type 0
+Analysed o t (Err r) = o ≡ refused (number r.reason) r.place
+Analysed o t (Ok a) = Found o t a.tokens a.rows a.words a.depth
 
 -- what the tokens of a source come to, 13 and 14 apart
-abbrev pub Parses : List ℕ → List Entry → List ℕ → Analysis → Type 0
+abbrev pub Parses : List ℕ → List Entry → List ℕ → Result Accepted Refusal → Type 0
 Parses source ts t r = token.outcome source ≡ token.read ts → Analysed (parsed source ts (reads (symbols ts 0))) t r

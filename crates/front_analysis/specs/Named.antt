@@ -1,7 +1,7 @@
 -- The names of a program that the grammar accepts: the specifications first, then the raw rows. Laws; assumes nothing.
-use Rattle.std.specs.Prelude.{◌≡◌, ℕ, ◌+◌, ◌-◌, ◌*◌, ◌≤◌, length, take, drop}
+use Rattle.std.specs.Prelude.{◌≡◌, ℕ, ◌+◌, ◌-◌, ◌*◌, ◌≤◌, length, take, drop, Option, None, Some, Result, Ok}
 use Rattle.std.proofs.Math.Path.{sym, ap}
-use Rattle.std.proofs.Common.{◌∙◌, length-take-le, get_or-append-add, eq-eqb, ne_eqb}
+use Rattle.std.proofs.Common.{◌∙◌, length-take-le, get_or-append-add}
 use mathlib.Core.List.{List, [], ◌++◌}
 use native.Mathlib.Omega.{arith}
 use Rattle.std.proofs.Math.ListN.{length-append, get_or-append}
@@ -31,11 +31,11 @@ use Rattle.x_names.specs.Least.{least_none}
 use Rattle.front_names_table.specs.View.{Table, view, text_at, place_at}
 use Rattle.front_names_judge.specs.Judge.{or_else, first_append}
 use Rattle.front_names_bind.specs.Going.{Filled, Fills}
-use Rattle.front_names_bind.specs.declared.Progress.{Progress}
-use Rattle.front_names_bind.specs.declared.Progress.TheVariants as bound
+use Rattle.x_tokens.specs.Refusals.{number}
+use Rattle.x_tokens.specs.declared.refusal.Refusal.{Refusal}
+use Rattle.front_names_bind.specs.declared.Declared.{Declared}
 use Rattle.front_read_program.specs.Answer.{process_start}
 use Rattle.front_names_resolve.specs.ResolvingWalk.{Walked, walked, walk, walk_entries, walk_rows, scope_of, verdict, getD_sets_past}
-use Rattle.front_names_resolve.specs.declared.Found as walk_found
 use Rattle.x_names.proofs.Specified.{count_declared, words_declared}
 use Rattle.front_analysis.specs.Analysed.{Found}
 
@@ -90,7 +90,7 @@ module _ (source kinds places values : List ℕ) where
         (ready.ordered ∙ first_append (of_specifications text place ss empty_scope) (of_process text place b S) ∙ ap (λ (v : Verdict). or_else v (first (of_process text place b S))) e)
 
     module _ (t₁ : List ℕ) (names : Table) (count made words : ℕ) (filled : Filled source kinds places values ss t t₁ names count made words)
-        (t₂ : List ℕ) (f : walk_found.Found) (walks : walked t₂ (verdict f) ≡ walk text place (scope_of (view source names count)) (rows - made) t₁ made fine) where
+        (t₂ : List ℕ) (f : Option Refusal) (walks : walked t₂ (verdict f) ≡ walk text place (scope_of (view source names count)) (rows - made) t₁ made fine) where
       abbrev D : List ℕ
       D = declared_rows (declarations text ss empty_scope) 0
 
@@ -116,16 +116,14 @@ module _ (source kinds places values : List ℕ) where
       found_least = ap (λ (w : Walked). w.found) all_walked ∙ same_least text place S b (raw.declared_rows ss) ∙ ap least (sym quiet)
 
       -- a row has the least complaint
-      pub row_refused : ¬ (f.number ≡ 0) → named_as p ≡ front.refused f.number f.place
-      row_refused h =
-          let e : verdict f ≡ refused (record { number = f.number; place = f.place }) = rw (ne_eqb f.number 0 h) in
-          ap (λ (v : Verdict). judged v (length kinds) (resolve.resolve text p)) (sym found_least ∙ e)
+      pub row_refused : (r : Refusal) → f ≡ Some r → named_as p ≡ front.refused (number r.reason) r.place
+      row_refused r e = ap (λ (v : Verdict). judged v (length kinds) (resolve.resolve text p)) (sym found_least ∙ ap verdict e)
 
       -- there is none
-      pub row_accepted : f.number ≡ 0 → Found (named_as p) t₂ (length kinds) rows words depth
+      pub row_accepted : f ≡ None → Found (named_as p) t₂ (length kinds) rows words depth
       unfolding row_count table_of
       row_accepted h =
-          let e : least (complaints text place p) ≡ fine = sym found_least ∙ rw (eq-eqb f.number 0 h) in
+          let e : least (complaints text place p) ≡ fine = sym found_least ∙ ap verdict h in
           let none = least_none (complaints text place p) e in
           let here : of_process text place b S ≡ [] = sym quiet ∙ none in
           let m = raw.declared_rows ss in
@@ -158,10 +156,10 @@ module _ (source kinds places values : List ℕ) where
           }
 
   -- what `bind` ensures of its answer
-  abbrev pub Bound : ℕ → List ℕ → List ℕ → Table → Progress → Type 0
-  Bound start t t₁ names r =
+  abbrev pub Bound : ℕ → List ℕ → List ℕ → Table → ℕ → Result Declared Refusal → Type 0
+  Bound start t t₁ names count r =
       (ds : List Specification) (b : Process) → unread kinds values 0 ≡ text_specifications ds (text_process b []) → start ≡ length kinds - length (text_process b [])
-      → Fills source kinds places values ds t t₁ names r
+      → Fills source kinds places values ds t t₁ names count r
 
   module _ (p : Program) (start rows depth : ℕ) (t : List ℕ) (ready : Ready p start rows depth t) where
     pub names_refused : (n q : ℕ)
@@ -173,16 +171,16 @@ module _ (source kinds places values : List ℕ) where
         by : (p : Program) → Ready p start rows depth t → named_as p ≡ front.refused n q
         by (program ss b) ready = first_refused ss b start rows depth t ready (record { number = n; place = q }) (h ss b ready.here ready.start_is)
 
-    module _ (t₁ : List ℕ) (names : Table) (count made words : ℕ) (h : Bound start t t₁ names (bound.Declared count made words)) (t₂ : List ℕ) (f : walk_found.Found)
-        (walks : walked t₂ (verdict f) ≡ walk text place (scope_of (view source names count)) (rows - made) t₁ made fine) where
-      pub names_accepted : f.number ≡ 0 → Found (named_as p) t₂ (length kinds) rows words depth
+    module _ (t₁ : List ℕ) (names : Table) (count : ℕ) (d : Declared) (h : Bound start t t₁ names count (Ok d)) (t₂ : List ℕ) (f : Option Refusal)
+        (walks : walked t₂ (verdict f) ≡ walk text place (scope_of (view source names count)) (rows - d.rows) t₁ d.rows fine) where
+      pub names_accepted : f ≡ None → Found (named_as p) t₂ (length kinds) rows d.words depth
       names_accepted e = by p ready
         where
-          by : (p : Program) → Ready p start rows depth t → Found (named_as p) t₂ (length kinds) rows words depth
-          by (program ss b) ready = row_accepted ss b start rows depth t ready t₁ names count made words (h ss b ready.here ready.start_is) t₂ f walks e
+          by : (p : Program) → Ready p start rows depth t → Found (named_as p) t₂ (length kinds) rows d.words depth
+          by (program ss b) ready = row_accepted ss b start rows depth t ready t₁ names count d.rows d.words (h ss b ready.here ready.start_is) t₂ f walks e
 
-      pub names_row_refused : ¬ (f.number ≡ 0) → named_as p ≡ front.refused f.number f.place
-      names_row_refused e = by p ready
+      pub names_row_refused : (r : Refusal) → f ≡ Some r → named_as p ≡ front.refused (number r.reason) r.place
+      names_row_refused r e = by p ready
         where
-          by : (p : Program) → Ready p start rows depth t → named_as p ≡ front.refused f.number f.place
-          by (program ss b) ready = row_refused ss b start rows depth t ready t₁ names count made words (h ss b ready.here ready.start_is) t₂ f walks e
+          by : (p : Program) → Ready p start rows depth t → named_as p ≡ front.refused (number r.reason) r.place
+          by (program ss b) ready = row_refused ss b start rows depth t ready t₁ names count d.rows d.words (h ss b ready.here ready.start_is) t₂ f walks r e

@@ -1,6 +1,6 @@
 -- The walk over the specifications: what is left to declare, from what the arrays hold. Claims and laws; assumes nothing.
 -- Rests on Judge, Here and the name table's view.
-use Rattle.std.specs.Prelude.{◌≡◌, Bool, true, false, ℕ, ◌+◌, ◌-◌, ◌*◌, ◌<◌, ◌≤◌, eqb, ltb, get_or}
+use Rattle.std.specs.Prelude.{◌≡◌, Bool, true, false, ℕ, ◌+◌, ◌-◌, ◌*◌, ◌<◌, ◌≤◌, eqb, ltb, get_or, Result, Ok, Err}
 use Rattle.std.proofs.Math.Path.{refl, ap}
 use Rattle.std.proofs.Common.{sym, ap₂, ◌∙◌, arith, length-append, ltb-false}
 use mathlib.Core.List.{List, [], ◌∷◌, ◌++◌, append_assoc, append-nil}
@@ -23,16 +23,17 @@ use Rattle.front_read_expressions.specs.Parts.{table_one}
 use Rattle.front_names_table.specs.Sorts as name_sort
 use Rattle.front_names_table.specs.View.{Table, view, bare, meant, by_sort, text_at, place_at}
 use Rattle.front_names_table.specs.View as views
-use Rattle.front_names_judge.specs.Judge.{verdict_of, or_else, first_append, listed, over, constant_read, constant_at, complaints_by, complaints_bare, item_of, item_row, specification_at, width}
+use Rattle.front_names_table.specs.Held.{held}
+use Rattle.front_names_judge.specs.Judge.{Constant, verdict_of, or_else, first_append, listed, over, constant_read, constant_at, complaints_by, complaints_bare, item_of, item_row, specification_at, width}
 use Rattle.front_names_judge.specs.Judge.{specified_complaints}
 use Rattle.front_names_judge.specs.Judge.{specified_scope, specified_rows}
 use Rattle.front_names_bind.specs.Here.{specification_here, comment_here, none_left, some_left}
 use Rattle.front_names_table.specs.declared.Meaning as found
-use Rattle.front_names_judge.specs.declared.Verdict as code
-use Rattle.front_names_judge.specs.declared.Constant as read
+use Rattle.x_tokens.specs.declared.refusal.Refusal.{Refusal}
+use Rattle.front_names_table.specs.declared.Names.{Names}
+use Rattle.front_names_table.specs.declared.Sort.TheVariants.{Var, Array, Val}
 use Rattle.front_names_judge.specs.declared.Item.{Item}
-use Rattle.front_names_bind.specs.declared.Progress.{Progress}
-use Rattle.front_names_bind.specs.declared.Progress.TheVariants.{Refused, Declared}
+use Rattle.front_names_bind.specs.declared.Declared.{Declared}
 
 -- the scope that the name table holds
 abbrev pub scope_of : List ℕ → Table → ℕ → ℕ → ℕ → Scope
@@ -74,9 +75,9 @@ room k m status word names words rows p q = by (eqb k kind.var) (eqb k kind.arra
 
     it : Bool → Bool → Item
     it a b =
-        pick a (record { sort = name_sort.var; row = rows; word = words; size = 1; rows = 1; words = 1 })
-        (pick b (record { sort = name_sort.array; row = rows; word = words; size = word; rows = 1; words = word })
-        (record { sort = name_sort.val; row = 0; word = word; size = 0; rows = 0; words = 0 }))
+        pick a (record { sort = Var; row = rows; word = words; size = 1; rows = 1; words = 1 })
+        (pick b (record { sort = Array; row = rows; word = words; size = word; rows = 1; words = word })
+        (record { sort = Val; row = 0; word = word; size = 0; rows = 0; words = 0 }))
 
     has : (more : ℕ) → known ++ full more ≡ [] → (names ≤ 255) × (words + more ≤ 8192)
     has more e = room_over names words more (not_when (over names words more) refusal.too_much (none_right known (full more) e))
@@ -102,9 +103,9 @@ item_sized k word rows words = by (eqb k kind.var) (eqb k kind.array)
   where
     it : Bool → Bool → Item
     it a b =
-        pick a (record { sort = name_sort.var; row = rows; word = words; size = 1; rows = 1; words = 1 })
-        (pick b (record { sort = name_sort.array; row = rows; word = words; size = word; rows = 1; words = word })
-        (record { sort = name_sort.val; row = 0; word = word; size = 0; rows = 0; words = 0 }))
+        pick a (record { sort = Var; row = rows; word = words; size = 1; rows = 1; words = 1 })
+        (pick b (record { sort = Array; row = rows; word = words; size = word; rows = 1; words = word })
+        (record { sort = Val; row = 0; word = word; size = 0; rows = 0; words = 0 }))
 
     by : (a b : Bool) → length (item_row (it a b)) ≡ row_words * (it a b).rows
     by true b = refl
@@ -116,12 +117,12 @@ pub record Put (e : Item) (p n names made used : ℕ) (old new : Table) (t t' : 
   pub count : count' ≡ names + 1
   pub rows : rows' ≡ made + e.rows
   pub words : words' ≡ used + e.words
-  pub name : (source : List ℕ) → view source new (names + 1) ≡ record { name = views.text source p n; meaning = by_sort e.sort e.row e.word e.size } ∷ view source old names
+  pub name : (source : List ℕ) → view source new (names + 1) ≡ record { name = views.text source p n; meaning = by_sort (name_sort.number e.sort) e.row e.word e.size } ∷ view source old names
   pub table : t' ≡ sets t (row_words * made) (item_row e)
 
-abbrev pub Puts : Item → ℕ → ℕ → ℕ → ℕ → ℕ → Table → Table → List ℕ → List ℕ → Progress → Type 0
-Puts e p n names made used old new t t' (Refused k q) = ⊥
-Puts e p n names made used old new t t' (Declared count rows words) = Put e p n names made used old new t t' count rows words
+-- in the code's words, with the names' sizes before and after
+abbrev pub Puts : Item → ℕ → ℕ → Declared → Names → Names → List ℕ → List ℕ → List ℕ → List ℕ → Declared → Type 0
+Puts e p n d old new sizes sizes' t t' d' = Put e p n old.count d.rows d.words (held old sizes) (held new sizes') t t' new.count d'.rows d'.words
 
 -- what `declare` answers, with the arrays that it leaves
 module _ (source kinds places values : List ℕ) where
@@ -146,38 +147,38 @@ module _ (source kinds places values : List ℕ) where
     pub rows : rows' ≡ s.rows + (read_item s i).rows
     pub words : words' ≡ s.words + (read_item s i).words
     pub name : view source names' (s.names + 1)
-        ≡ record { name = text (i + 1); meaning = by_sort (read_item s i).sort (read_item s i).row (read_item s i).word (read_item s i).size } ∷ s.entries
+        ≡ record { name = text (i + 1); meaning = by_sort (name_sort.number (read_item s i).sort) (read_item s i).row (read_item s i).word (read_item s i).size } ∷ s.entries
     pub table : t' ≡ sets t (row_words * s.rows) (item_row (read_item s i))
 
-  abbrev pub Enters : Scope → ℕ → Table → Table → List ℕ → List ℕ → Progress → Type 0
-  Enters s i names names' t t' (Refused n p) = first (read_complaints s i) ≡ refused (record { number = n; place = p })
-  Enters s i names names' t t' (Declared count rows words) = Entered s i names names' t t' count rows words
+  abbrev pub Enters : Scope → ℕ → Table → Table → List ℕ → List ℕ → ℕ → Result Declared Refusal → Type 0
+  Enters s i names names' t t' count' (Err r) = first (read_complaints s i) ≡ refused (record { number = refusal.number r.reason; place = r.place })
+  Enters s i names names' t t' count' (Ok d) = Entered s i names names' t t' count' d.rows d.words
 
   -- whatever the sizes of the arrays so far, which the code doesn't keep
-  abbrev pub EntersAny : ℕ → ℕ → ℕ → ℕ → (List ℕ → Table) → (List ℕ → Table) → List ℕ → List ℕ → Progress → Type 0
-  EntersAny i count rows words old new t t' r =
-      (sizes : List ℕ) → 256 ≤ length sizes → (sizes' : List ℕ) × (256 ≤ length sizes') × Enters (scope_of source (old sizes) count rows words) i (old sizes) (new sizes') t t' r
+  abbrev pub EntersAny : ℕ → Declared → Names → Names → List ℕ → List ℕ → Result Declared Refusal → Type 0
+  EntersAny i d old new t t' r =
+      (sizes : List ℕ) → 256 ≤ length sizes
+      → (sizes' : List ℕ) × (256 ≤ length sizes') × Enters (scope_of source (held old sizes) old.count d.rows d.words) i (held old sizes) (held new sizes') t t' new.count r
 
   -- the code's words are those that stand in the arrays
-  module _ (s : Scope) (i : ℕ) (k : ℕ) (m : found.Meaning) (c : read.Constant) (p n q : ℕ) (ek : k ≡ get_or kinds i 0) (ep : p ≡ place (i + 1)) (en : n ≡ get_or values (i + 1) 0)
+  module _ (s : Scope) (i : ℕ) (k : ℕ) (m : found.Meaning) (c : Constant) (p n q : ℕ) (ek : k ≡ get_or kinds i 0) (ep : p ≡ place (i + 1)) (en : n ≡ get_or values (i + 1) 0)
       (em : meant m ≡ bare (lookup s.entries (views.text source p n))) (ec : c ≡ constant_read text s (constant_at kinds values (i + 3))) (eq : q ≡ place (i + 3)) where
-    pub judged_as : (v : code.Verdict) → verdict_of v ≡ first (complaints_by k (meant m) c.status c.word s.names s.words p q) → first (read_complaints s i) ≡ verdict_of v
+    pub judged_as : {A : Type 0} (v : Result A Refusal) → verdict_of v ≡ first (complaints_by k (meant m) c.status c.word s.names s.words p q) → first (read_complaints s i) ≡ verdict_of v
     judged_as v h =
         let em' : meant m ≡ bare (meaning_of text s (i + 1)) = em ∙ ap₂ (λ (a b : ℕ). bare (lookup s.entries (views.text source a b))) ep en in
         sym (h ∙ (λ j. first (complaints_by (ek j) (em' j) (ec j).status (ec j).word s.names s.words (ep j) (eq j))) ∙ ap first (complaints_bare _ _ _ _ _ _ _ _))
 
-    pub put_as : (e : Item) (names names' : Table) (t t' : List ℕ) (r : Progress) → e ≡ item_of k c.word s.rows s.words → s.entries ≡ view source names s.names
+    pub put_as : (e : Item) (names names' : Table) (t t' : List ℕ) (count rows words : ℕ) → e ≡ item_of k c.word s.rows s.words → s.entries ≡ view source names s.names
         → first (read_complaints s i) ≡ fine
-        → Puts e p n s.names s.rows s.words names names' t t' r → Enters s i names names' t t' r
-    put_as e names names' t t' (Refused x y) he hs f h = absurd h
-    put_as e names names' t t' (Declared count rows words) he hs f h =
+        → Put e p n s.names s.rows s.words names names' t t' count rows words → Entered s i names names' t t' count rows words
+    put_as e names names' t t' count rows words he hs f h =
         let e' : e ≡ read_item s i = he ∙ (λ j. item_of (ek j) (ec j).word s.rows s.words) in
         record {
           quiet = f;
           count = h.count;
           rows = h.rows ∙ ap (λ (x : Item). s.rows + x.rows) e';
           words = h.words ∙ ap (λ (x : Item). s.words + x.words) e';
-          name = h.name source ∙ (λ j. record { name = views.text source (ep j) (en j); meaning = by_sort (e' j).sort (e' j).row (e' j).word (e' j).size } ∷ sym hs j);
+          name = h.name source ∙ (λ j. record { name = views.text source (ep j) (en j); meaning = by_sort (name_sort.number (e' j).sort) (e' j).row (e' j).word (e' j).size } ∷ sym hs j);
           table = h.table ∙ ap (λ (x : Item). sets t (row_words * s.rows) (item_row x)) e';
         }
 
@@ -206,9 +207,9 @@ module _ (source kinds places values : List ℕ) where
     pub table : t' ≡ sets t 0 (declared_rows (declarations text ds empty_scope) 0)
     pub sized : length (declared_rows (declarations text ds empty_scope) 0) ≡ row_words * rows
 
-  abbrev pub Fills : List Specification → List ℕ → List ℕ → Table → Progress → Type 0
-  Fills ds t t' names (Refused n p) = first (of_specifications text place ds empty_scope) ≡ refused (record { number = n; place = p })
-  Fills ds t t' names (Declared count rows words) = Filled ds t t' names count rows words
+  abbrev pub Fills : List Specification → List ℕ → List ℕ → Table → ℕ → Result Declared Refusal → Type 0
+  Fills ds t t' names count (Err r) = first (of_specifications text place ds empty_scope) ≡ refused (record { number = refusal.number r.reason; place = r.place })
+  Fills ds t t' names count (Ok d) = Filled ds t t' names count d.rows d.words
 
   module _ (ds : List Specification) (b : Process) (t₀ : List ℕ) where
     pub going_start : (names : Table) → unread kinds values 0 ≡ text_specifications ds (text_process b []) → Going ds b t₀ names t₀ 0 0 0 0
@@ -266,7 +267,7 @@ module _ (source kinds places values : List ℕ) where
             let (rest, l, h) = first_left in
             let d = specification_at kinds values i in
             let e = read_item s i in
-            let entered : List Entry = record { name = text (i + 1); meaning = by_sort e.sort e.row e.word e.size } ∷ view source names count in
+            let entered : List Entry = record { name = text (i + 1); meaning = by_sort (name_sort.number e.sort) e.row e.word e.size } ∷ view source names count in
             let v : entered ≡ view source names' count' = sym n.name ∙ ap (view source names') (sym n.count) in
             let r = sym n.rows in let c = sym n.count in let w = sym n.words in
             let s' : declare text d s ≡ scope_of source names' count' rows' words' =

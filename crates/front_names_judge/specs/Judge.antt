@@ -1,6 +1,6 @@
 -- One specification, from its tokens: what it deserves and what it declares, in the words that the code reads. Definitions and laws.
 -- Rests on the scope and the complaints of crate `x_names`.
-use Rattle.std.specs.Prelude.{◌≡◌, refl, Bool, true, false, List, [], ◌∷◌, ◌++◌, eqb, ltb, get_or}
+use Rattle.std.specs.Prelude.{◌≡◌, refl, Bool, true, false, List, [], ◌∷◌, ◌++◌, eqb, ltb, get_or, Result, Ok, Err}
 use Rattle.std.proofs.Common.{sym, ap, ap₂, ◌∙◌, arith, add-zero}
 use Prim.Native.Nat.{ℕ, ◌+◌, ◌≤◌}
 use Rattle.arm_word.specs.Choice.{pick}
@@ -16,15 +16,15 @@ use Rattle.x_names.specs.FirstComplaint.{first}
 use Rattle.front_names_table.specs.Sorts as name_sort
 use Rattle.x_names.specs.Resolve.{declared}
 use Rattle.front_names_table.specs.View.{bare, by_sort}
-use Rattle.front_names_judge.specs.declared.Verdict as code
-use Rattle.front_names_judge.specs.declared.Verdict.TheVariants.{Fine, Refused}
-use Rattle.front_names_judge.specs.declared.Constant as read
+use Rattle.x_tokens.specs.declared.refusal.Reason.{Reason}
+use Rattle.x_tokens.specs.declared.refusal.Refusal.{Refusal}
+use Rattle.front_names_table.specs.declared.Sort.TheVariants.{Var, Array, Val}
 use Rattle.front_names_judge.specs.declared.Item.{Item}
 
 -- the code's answer as a verdict
-abbrev pub verdict_of : code.Verdict → Verdict
-verdict_of Fine = fine
-verdict_of (Refused number place) = refused (record { number = number; place = place })
+abbrev pub verdict_of : {A : Type 0} → Result A Refusal → Verdict
+verdict_of (Ok x) = fine
+verdict_of (Err r) = refused (record { number = refusal.number r.reason; place = r.place })
 
 -- the first of two verdicts
 abbrev pub or_else : Verdict → Verdict → Verdict
@@ -48,14 +48,23 @@ listed p (k ∷ ks) = record { number = k; place = p } ∷ listed p ks
 abbrev pub over : ℕ → ℕ → ℕ → Bool
 over names words more = pick (ltb 255 names) true (ltb 8192 (words + more))
 
--- a constant as the code reads it: 0 and its word, or the number of its complaint
-abbrev pub constant_by : Meaning → read.Constant
+-- a constant as it is read: 0 and its word, or the number of its complaint
+pub record Constant : Type 0 where
+  pub status : ℕ
+  pub word : ℕ
+
+-- as the code reads it
+abbrev pub read_as : Result ℕ Reason → Constant
+read_as (Ok w) = record { status = 0; word = w }
+read_as (Err r) = record { status = refusal.number r; word = 0 }
+
+abbrev pub constant_by : Meaning → Constant
 constant_by unknown = record { status = refusal.not_declared; word = 0 }
 constant_by (variable v) = record { status = refusal.wrong_kind; word = 0 }
 constant_by (array a) = record { status = refusal.wrong_kind; word = 0 }
 constant_by (constant w) = record { status = 0; word = w }
 
-abbrev pub constant_read : (ℕ → List ℕ) → Scope → grammar.Constant → read.Constant
+abbrev pub constant_read : (ℕ → List ℕ) → Scope → grammar.Constant → Constant
 constant_read text s (grammar.literal w) = record { status = 0; word = w }
 constant_read text s (grammar.named n) = constant_by (meaning_of text s n)
 
@@ -90,13 +99,13 @@ complaints_bare k (constant w) status word names words p q = refl
 -- what a specification enters: the name's sort, its row, its word and size; and how many rows and words it declares
 unfoldable pub item_of : ℕ → ℕ → ℕ → ℕ → Item
 item_of k word rows words =
-    pick (eqb k kind.var) (record { sort = name_sort.var; row = rows; word = words; size = 1; rows = 1; words = 1 })
-    (pick (eqb k kind.array) (record { sort = name_sort.array; row = rows; word = words; size = word; rows = 1; words = word })
-    (record { sort = name_sort.val; row = 0; word = word; size = 0; rows = 0; words = 0 }))
+    pick (eqb k kind.var) (record { sort = Var; row = rows; word = words; size = 1; rows = 1; words = 1 })
+    (pick (eqb k kind.array) (record { sort = Array; row = rows; word = words; size = word; rows = 1; words = word })
+    (record { sort = Val; row = 0; word = word; size = 0; rows = 0; words = 0 }))
 
 -- the row of the syntax table that it makes, if any
 abbrev pub item_row : Item → List ℕ
-item_row e = pick (eqb e.sort name_sort.val) [] (row e.sort e.word e.size 0)
+item_row e = pick (eqb (name_sort.number e.sort) name_sort.val) [] (row (name_sort.number e.sort) e.word e.size 0)
 
 -- the specification at token i, which is no comment
 abbrev pub constant_at : List ℕ → List ℕ → ℕ → grammar.Constant
@@ -198,7 +207,7 @@ module _ (text : ℕ → List ℕ) (place : ℕ → ℕ) (s : Scope) where
     -- THE LAW of what is declared
     pub specified_scope : declare text (specification_at kinds values i) s
         ≡ record {
-          entries = record { name = text (i + 1); meaning = by_sort e.sort e.row e.word e.size } ∷ s.entries;
+          entries = record { name = text (i + 1); meaning = by_sort (name_sort.number e.sort) e.row e.word e.size } ∷ s.entries;
           rows = s.rows + e.rows;
           names = s.names + 1;
           words = s.words + e.words;
@@ -211,13 +220,13 @@ module _ (text : ℕ → List ℕ) (place : ℕ → ℕ) (s : Scope) where
 
         it : Bool → Bool → Item
         it a b =
-            pick a (record { sort = name_sort.var; row = s.rows; word = s.words; size = 1; rows = 1; words = 1 })
-            (pick b (record { sort = name_sort.array; row = s.rows; word = s.words; size = w; rows = 1; words = w })
-            (record { sort = name_sort.val; row = 0; word = w; size = 0; rows = 0; words = 0 }))
+            pick a (record { sort = Var; row = s.rows; word = s.words; size = 1; rows = 1; words = 1 })
+            (pick b (record { sort = Array; row = s.rows; word = s.words; size = w; rows = 1; words = w })
+            (record { sort = Val; row = 0; word = w; size = 0; rows = 0; words = 0 }))
 
         by : (a b : Bool) → declare text (pick a (grammar.var (i + 1)) (pick b (grammar.array (i + 1) c) (val (i + 1) c))) s
             ≡ record {
-              entries = record { name = text (i + 1); meaning = by_sort (it a b).sort (it a b).row (it a b).word (it a b).size } ∷ s.entries;
+              entries = record { name = text (i + 1); meaning = by_sort (name_sort.number (it a b).sort) (it a b).row (it a b).word (it a b).size } ∷ s.entries;
               rows = s.rows + (it a b).rows;
               names = s.names + 1;
               words = s.words + (it a b).words;
@@ -235,9 +244,9 @@ module _ (text : ℕ → List ℕ) (place : ℕ → ℕ) (s : Scope) where
 
         it : Bool → Bool → Item
         it a b =
-            pick a (record { sort = name_sort.var; row = s.rows; word = s.words; size = 1; rows = 1; words = 1 })
-            (pick b (record { sort = name_sort.array; row = s.rows; word = s.words; size = w; rows = 1; words = w })
-            (record { sort = name_sort.val; row = 0; word = w; size = 0; rows = 0; words = 0 }))
+            pick a (record { sort = Var; row = s.rows; word = s.words; size = 1; rows = 1; words = 1 })
+            (pick b (record { sort = Array; row = s.rows; word = s.words; size = w; rows = 1; words = w })
+            (record { sort = Val; row = 0; word = w; size = 0; rows = 0; words = 0 }))
 
         by : (a b : Bool)
             → declared_rows (declared text (pick a (grammar.var (i + 1)) (pick b (grammar.array (i + 1) c) (val (i + 1) c))) s ds) s.words

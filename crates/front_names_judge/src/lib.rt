@@ -7,30 +7,16 @@ ghost use Rattle.x_names.specs.Complaints.{is_known, bad_length, when};
 ghost use Rattle.x_names.specs.FirstComplaint.{first};
 ghost use Rattle.front_names_table.specs.View.{meant};
 ghost use Rattle.front_names_judge.specs.Judge as judging;
-ghost use Rattle.front_names_judge.specs.Judge.{verdict_of, or_else, listed, over, constant_by, complaints_by, item_of, some};
+ghost use Rattle.front_names_judge.specs.Judge.{verdict_of, read_as, listed, over, constant_by, complaints_by, item_of};
 
-use front_names_table::{Meaning, sort};
+use front_names_table::{Meaning, Sort};
 use x_spelling::kind;
-use x_tokens::refusal;
-
-// The refusal's number and place, if there is one.
-#[derive(Clone, Copy)]
-pub enum Verdict {
-    Fine,
-    Refused(u32, u32),
-}
-
-// A constant: 0 and its word, or the number of its complaint.
-#[derive(Clone, Copy)]
-pub struct Constant {
-    pub status: u32,
-    pub word: u32,
-}
+use x_tokens::refusal::{Reason, Refusal};
 
 // What a specification enters into the name table, and how many rows and words it declares.
 #[derive(Clone, Copy)]
 pub struct Item {
-    pub sort: u32,
+    pub sort: Sort,
     pub row: u32,
     pub word: u32,
     pub size: u32,
@@ -41,159 +27,145 @@ pub struct Item {
 fn known(m: Meaning) -> bool
     ensures { result ≡ is_known (meant m) }
 {
-    match m {
-        Meaning::Unknown => false,
-        Meaning::Variable(_) => true,
-        Meaning::Array(_) => true,
-        Meaning::Constant(_) => true,
-    }
+    !matches!(m, Meaning::Unknown)
 }
 
 fn full(names: usize, words: u32, more: u32) -> bool
     ensures { result ≡ over names words more }
 {
-    if 255 < names {
-        return true;
-    }
-    let total = words as u64 + more as u64;
-    8192 < total
+    255 < names || 8192 < words as u64 + more as u64
 }
 
 fn bad_length(n: u32) -> bool
     ensures { result ≡ bad_length n }
 {
-    if 0 < n { 8192 < n } else { true }
+    !(1..=8192).contains(&n)
 }
 
 // What a name that declares `more` words deserves.
-fn new_name(m: Meaning, names: usize, words: u32, more: u32, place: u32) -> Verdict
+fn new_name(m: Meaning, names: usize, words: u32, more: u32, place: u32) -> Result<(), Refusal>
     ensures { verdict_of result ≡ first (listed place (when (is_known (meant m)) refusals.declared_twice ++ when (over names words more) refusals.too_much)) }
 {
     if known(m) {
-        return Verdict::Refused(refusal::DECLARED_TWICE, place);
+        return Err(Refusal {
+            reason: Reason::DeclaredTwice,
+            place,
+        });
     }
     if full(names, words, more) {
-        return Verdict::Refused(refusal::TOO_MUCH, place);
+        return Err(Refusal {
+            reason: Reason::TooMuch,
+            place,
+        });
     }
-    Verdict::Fine
+    Ok(())
 }
 
 // What an array of that length deserves.
-fn new_array(m: Meaning, names: usize, words: u32, length: u32, place: u32) -> Verdict
+fn new_array(m: Meaning, names: usize, words: u32, length: u32, place: u32) -> Result<(), Refusal>
     ensures { verdict_of result ≡ first (listed place (when (is_known (meant m)) refusals.declared_twice
         ++ (when (bad_length length) refusals.bad_length ++ when (over names words length) refusals.too_much))) }
 {
     if known(m) {
-        return Verdict::Refused(refusal::DECLARED_TWICE, place);
+        return Err(Refusal {
+            reason: Reason::DeclaredTwice,
+            place,
+        });
     }
     if bad_length(length) {
-        return Verdict::Refused(refusal::BAD_LENGTH, place);
+        return Err(Refusal {
+            reason: Reason::BadLength,
+            place,
+        });
     }
     if full(names, words, length) {
-        return Verdict::Refused(refusal::TOO_MUCH, place);
+        return Err(Refusal {
+            reason: Reason::TooMuch,
+            place,
+        });
     }
-    Verdict::Fine
+    Ok(())
 }
 
-pub fn constant_of(m: Meaning) -> Constant
-    ensures { result ≡ constant_by (meant m) }
+// The word of a constant whose name stands for m, or why it has none.
+pub fn constant_of(m: Meaning) -> Result<u32, Reason>
+    ensures { read_as result ≡ constant_by (meant m) }
 {
     match m {
-        Meaning::Unknown => Constant {
-            status: refusal::NOT_DECLARED,
-            word: 0,
-        },
-        Meaning::Variable(_) => Constant {
-            status: refusal::WRONG_KIND,
-            word: 0,
-        },
-        Meaning::Array(_) => Constant {
-            status: refusal::WRONG_KIND,
-            word: 0,
-        },
-        Meaning::Constant(word) => Constant { status: 0, word },
+        Meaning::Unknown => Err(Reason::NotDeclared),
+        Meaning::Variable(_) | Meaning::Array(_) => Err(Reason::WrongKind),
+        Meaning::Constant(word) => Ok(word),
     }
 }
 
-// A verdict, and if it is fine the complaint about a constant.
-fn and_constant(v: Verdict, status: u32, place: u32) -> Verdict
-    ensures { verdict_of result ≡ or_else (verdict_of v) (first (listed place (some status))) }
-{
-    match v {
-        Verdict::Refused(number, at) => Verdict::Refused(number, at),
-        Verdict::Fine => {
-            if status == 0 {
-                Verdict::Fine
-            } else {
-                Verdict::Refused(status, place)
-            }
-        }
-    }
-}
-
-// What a specification of kind k deserves: m is what its name stands for already, p the name's place, q the constant's.
+// What a specification of kind k deserves: m is what its name stands for already, p the name's place, q that of its constant, c.
 pub fn judge(
     k: u8,
     m: Meaning,
-    status: u32,
-    word: u32,
+    c: Result<u32, Reason>,
     names: usize,
     words: u32,
     p: u32,
     q: u32,
-) -> Verdict
-    ensures { verdict_of result ≡ first (complaints_by k (meant m) status word names words p q) }
+) -> Result<(), Refusal>
+    ensures { verdict_of result ≡ first (complaints_by k (meant m) (read_as c).status (read_as c).word names words p q) }
 {
     if k == kind::VAR {
         return new_name(m, names, words, 1, p);
     }
-    if k == kind::ARRAY {
-        if status == 0 {
-            return new_array(m, names, words, word, p);
+    match c {
+        Ok(word) => {
+            if k == kind::ARRAY {
+                new_array(m, names, words, word, p)
+            } else {
+                new_name(m, names, words, 0, p)
+            }
         }
-        return and_constant(new_name(m, names, words, 0, p), status, q);
+        Err(reason) => {
+            new_name(m, names, words, 0, p)?;
+            Err(Refusal { reason, place: q })
+        }
     }
-    and_constant(new_name(m, names, words, 0, p), status, q)
 }
 
+#[tactic(auto, unfolding(crate::specs::Judge::item_of))]
 pub fn item_of(k: u8, word: u32, rows: u32, words: u32) -> Item
     ensures { result ≡ item_of k word rows words }
 {
-    if k == kind::VAR {
-        return Item {
-            sort: sort::VAR,
+    match k {
+        kind::VAR => Item {
+            sort: Sort::Var,
             row: rows,
             word: words,
             size: 1,
             rows: 1,
             words: 1,
-        };
-    }
-    if k == kind::ARRAY {
-        return Item {
-            sort: sort::ARRAY,
+        },
+        kind::ARRAY => Item {
+            sort: Sort::Array,
             row: rows,
             word: words,
             size: word,
             rows: 1,
             words: word,
-        };
-    }
-    Item {
-        sort: sort::VAL,
-        row: 0,
-        word: word,
-        size: 0,
-        rows: 0,
-        words: 0,
+        },
+        _ => Item {
+            sort: Sort::Val,
+            row: 0,
+            word,
+            size: 0,
+            rows: 0,
+            words: 0,
+        },
     }
 }
 
 pub fn width(k: u8) -> usize
     ensures { result ≡ judging.width k }
 {
-    if k == kind::VAR {
-        return 3;
+    match k {
+        kind::VAR => 3,
+        kind::ARRAY => 6,
+        _ => 5,
     }
-    if k == kind::ARRAY { 6 } else { 5 }
 }

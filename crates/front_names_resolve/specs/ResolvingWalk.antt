@@ -1,5 +1,5 @@
 -- The walk over the raw rows of a table: each is resolved where it stands, and the least complaint so far is kept. Definitions and laws; assumes nothing.
-use Rattle.std.specs.Prelude.{◌≡◌, Bool, length, get_or, set, take, drop, eqb}
+use Rattle.std.specs.Prelude.{◌≡◌, Bool, length, get_or, set, take, drop, eqb, Option, None, Some}
 use Rattle.std.proofs.Math.Path.{refl, ap, ap₂}
 use Rattle.std.proofs.Common.{sym, ◌∙◌, get_or-set_other, eq-eqb, ne_eqb, lt-ltb, le-ltb, le-leb}
 use Rattle.std.proofs.Math.Bool.{true, false}
@@ -22,15 +22,22 @@ use Rattle.x_names.specs.RowComplaints.{lesser_of, lesser_of_comm, lesser_of_ass
 use Rattle.front_names_table.specs.Sorts as name_sort
 use Rattle.x_names.specs.ResolvedRows.{declared_row, value_row, names_one, resolve_rows}
 use Rattle.front_names_table.specs.View.{bare, text_at, place_at}
-use Rattle.front_names_resolve.specs.declared.Found.{Found}
+use Rattle.x_tokens.specs.declared.refusal.Reason.{Reason}
+use Rattle.x_tokens.specs.declared.refusal.Refusal.{Refusal}
 
 -- a number at a place, 0 for none
 abbrev pub judged_by : ℕ → ℕ → Verdict
 judged_by n p = pick (eqb n 0) fine (refused (record { number = n; place = p }))
 
+-- the code's reason, by number
+abbrev pub numbered : Option Reason → ℕ
+numbered None = 0
+numbered (Some r) = refusal.number r
+
 -- the code's verdict
-abbrev pub verdict : Found → Verdict
-verdict f = judged_by f.number f.place
+abbrev pub verdict : Option Refusal → Verdict
+verdict None = fine
+verdict (Some r) = refused (record { number = refusal.number r.reason; place = r.place })
 
 -- a scope with these entries
 abbrev pub scope_of : List Entry → Scope

@@ -1,8 +1,6 @@
 // Sources of document 01 and of docs/DECISIONS.md as tokens (kind:place:value) or as a refusal, written to standard output.
 #![tactic(auto)]
 
-use x_tokens::Scanned;
-
 // The first n tokens.
 fn all(rt: &impl Print, kinds: &[u8], places: &[u32], values: &[u32], n: usize) {
     for ((kind, place), value) in kinds.iter().zip(places).zip(values).take(n) {
@@ -17,10 +15,10 @@ fn case(rt: &impl Print, source: &str) {
     let answer = x_tokens::tokens(source.as_bytes(), &mut kinds, &mut places, &mut values);
     let _ = print!(rt; "{source} ->");
     match answer {
-        Scanned::Refused(k, place) => {
-            let _ = print!(rt; " refused {k} at {place}");
+        Err(refusal) => {
+            let _ = print!(rt; " refused {} at {}", u32::from(refusal.reason), refusal.place);
         }
-        Scanned::Read(n) => all(rt, &kinds, &places, &values, n),
+        Ok(n) => all(rt, &kinds, &places, &values, n),
     }
     let _ = println!(rt);
 }

@@ -1,8 +1,6 @@
 // How names are looked up among the reserved words, written to standard output: with how many each is compared in full, and what it stands for.
 #![tactic(auto)]
 
-use x_spelling::Found;
-
 // The longest name here has one byte more than a name may have.
 const LONGEST: usize = 33;
 
@@ -16,8 +14,8 @@ fn shown(rt: &impl Print, w: &[u8]) {
     text(rt, w);
     let _ = print!(rt; " {} ", looked.compared);
     let _ = match looked.found {
-        Found::Reserved(token) => println!(rt; "reserved {}:{}", token.kind, token.value),
-        Found::Free => println!(rt; "name"),
+        Some(token) => println!(rt; "reserved {}:{}", token.kind, token.value),
+        None => println!(rt; "name"),
     };
 }
 

@@ -12,7 +12,7 @@ ghost use Rattle.text_explain.specs.ExplainLaws.{Small};
 use text_buffer::{append, append_line};
 use text_lines::Line;
 use translate_source::Translation;
-use x_tokens::refusal;
+use x_tokens::refusal::Reason;
 
 // The sizes of an accepted source, a line each.
 fn sizes(t: Translation) -> Line
@@ -38,16 +38,13 @@ fn put_accepted(source: &[u8], t: Translation, out: &mut [u8]) -> usize
 }
 
 // Numbers whose refusal concerns the source as a whole.
+#[tactic(auto, unfolding(crate::specs::Explain::placeless))]
 fn placeless(n: u32) -> bool
     ensures { result ≡ spec.placeless n }
 {
-    if n == refusal::LONG_SOURCE {
-        return true;
-    }
-    if n == refusal::DEEP_PROGRAM {
-        return true;
-    }
-    refusal::SHORT_TABLE <= n
+    n == Reason::LongSource as u32
+        || n == Reason::DeepProgram as u32
+        || Reason::ShortTable as u32 <= n
 }
 
 // Line and column of a place.

@@ -13,13 +13,12 @@ ghost use Rattle.text_names.specs.Walk.{val_found, constant_found, Reads};
 ghost use Rattle.text_names.specs.Tokens.{IsAccepted, TokensOf, First};
 ghost use Rattle.text_names.specs.Names.{right, data_head, val_tail, names_of};
 
-use front_names_table::{number, text, wide};
+use front_names_table::{number, text};
 use front_read_expressions::kind_at;
 use text_buffer::{append, append_line};
 use text_lines::Line;
 use text_position::put_spaces;
 use x_spelling::kind;
-use x_tokens::Scanned;
 
 const COLUMNS: usize = 7;
 
@@ -114,7 +113,11 @@ fn item_value(k: u8, w: u32) -> u32
 fn token_text<'a>(source: &'a [u8], places: &[u32], values: &[u32], t: usize) -> &'a [u8]
     ensures { result.now ≡ text_at source.now places.now values.now t }
 {
-    text(source, wide(number(places, t)), wide(number(values, t)))
+    text(
+        source,
+        number(places, t) as usize,
+        number(values, t) as usize,
+    )
 }
 
 // A name that is declared: its token, and its word if it is a val.
@@ -128,7 +131,7 @@ struct Declared {
 fn is_spelt(source: &[u8], places: &[u32], values: &[u32], d: Declared, text: &[u8]) -> bool
     ensures { result ≡ same (text_at source.now places.now values.now d.token) text.now }
 {
-    x_spelling::equal(token_text(source, places, values, wide(d.token)), text)
+    x_spelling::equal(token_text(source, places, values, d.token as usize), text)
 }
 
 // The word of the val that token t names: the latest of the names that is spelt so.
@@ -231,7 +234,7 @@ pub fn lines(source: &[u8], out: &mut [u8], at: usize) -> usize
     let mut values = [0u32; 1024];
     let s = x_tokens::tokens(source, &mut kinds, &mut places, &mut values);
     match s {
-        Scanned::Refused(_, _) => at,
-        Scanned::Read(n) => put_first(source, &kinds, &places, &values, n, out, at),
+        Err(_) => at,
+        Ok(n) => put_first(source, &kinds, &places, &values, n, out, at),
     }
 }

@@ -13,7 +13,7 @@ use front_read_expressions::{is_diadic, kind_at};
 use text_buffer::append_line;
 use text_lines::Line;
 use x_spelling::kind;
-use x_tokens::{Scanned, refusal};
+use x_tokens::refusal::Reason;
 
 const NO_TOKEN: u8 = 0;
 
@@ -35,24 +35,25 @@ fn line(text: &[u8]) -> Line
 }
 
 // The sentences of 1 to 5 and 7.
+#[tactic(auto, unfolding(crate::specs::Refusal::early_sentence))]
 fn early_sentence(n: u32) -> Line
     ensures { written result ≡ fitted (spec.early_sentence n) }
 {
-    if n == refusal::LONG_SOURCE {
+    if n == Reason::LongSource as u32 {
         return line(b"1: the source has more than 16,384 bytes\n");
     }
-    if n == refusal::BROKEN_TOKEN {
+    if n == Reason::BrokenToken as u32 {
         return line(
             b"2: no token stands here: an unknown character, a comment without its second |, or a broken literal\n",
         );
     }
-    if n == refusal::LARGE_NUMBER {
+    if n == Reason::LargeNumber as u32 {
         return line(b"3: the number is too large: at most 2147483647, or #FFFFFFFF\n");
     }
-    if n == refusal::LONG_NAME {
+    if n == Reason::LongName as u32 {
         return line(b"4: the name has more than 32 characters\n");
     }
-    if n == refusal::MANY_TOKENS {
+    if n == Reason::ManyTokens as u32 {
         return line(
             b"5: the source has more than 1,024 tokens, comments counted: this is the first of the others\n",
         );
@@ -61,27 +62,28 @@ fn early_sentence(n: u32) -> Line
 }
 
 // The sentences of 8 to 14.
+#[tactic(auto, unfolding(crate::specs::Refusal::late_sentence))]
 fn late_sentence(n: u32) -> Line
     ensures { written result ≡ fitted (spec.late_sentence n) }
 {
-    if n == refusal::NOT_DECLARED {
+    if n == Reason::NotDeclared as u32 {
         return line(b"8: the name is not declared before this place\n");
     }
-    if n == refusal::DECLARED_TWICE {
+    if n == Reason::DeclaredTwice as u32 {
         return line(b"9: the name is declared already\n");
     }
-    if n == refusal::WRONG_KIND {
+    if n == Reason::WrongKind as u32 {
         return line(
             b"10: the name is of the wrong sort here: an array takes a subscript, a var none, a val no new value; a constant is a val\n",
         );
     }
-    if n == refusal::BAD_LENGTH {
+    if n == Reason::BadLength as u32 {
         return line(b"11: the length of the array is not 1 to 8,192\n");
     }
-    if n == refusal::TOO_MUCH {
+    if n == Reason::TooMuch as u32 {
         return line(b"12: with this name the source has more than 256 names or 8,192 data words\n");
     }
-    if n == refusal::SHORT_TABLE {
+    if n == Reason::ShortTable as u32 {
         return line(b"13: the table is too short for so many tokens\n");
     }
     line(b"14: the code buffer is too short for so many tokens\n")
@@ -91,7 +93,7 @@ fn late_sentence(n: u32) -> Line
 fn sentence(n: u32) -> Line
     ensures { written result ≡ fitted (spec.sentence n) }
 {
-    if n <= refusal::DEEP_PROGRAM {
+    if n <= Reason::DeepProgram as u32 {
         return early_sentence(n);
     }
     late_sentence(n)
@@ -131,12 +133,12 @@ fn met_at(source: &[u8], place: u32) -> Near
     let mut values = [0u32; 1024];
     let s = x_tokens::tokens(source, &mut kinds, &mut places, &mut values);
     match s {
-        Scanned::Refused(_, _) => Near {
+        Err(_) => Near {
             before: NO_TOKEN,
             previous: NO_TOKEN,
             met: NO_TOKEN,
         },
-        Scanned::Read(n) => near_in(&kinds, &places, n, place),
+        Ok(n) => near_in(&kinds, &places, n, place),
     }
 }
 

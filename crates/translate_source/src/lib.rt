@@ -11,15 +11,18 @@ ghost use Rattle.x_program.specs.Table.{process_at};
 ghost use Rattle.translate_rules.specs.ImageCode as rules;
 ghost use Rattle.translate_emit_instructions.specs.Write.{Room};
 ghost use Rattle.translate_image_values.specs.Well.{WellProcess};
+ghost use Rattle.x_tokens.specs.Refusals.{number};
 ghost use Rattle.x_verdict.specs.Front as front;
 ghost use Rattle.translate_source.specs.Translate.{filled, left, translated, translation};
 ghost use Rattle.translate_source.specs.Filled.{Parts};
 
-use front_analysis::{Analysis, analyse};
+use front_analysis::{Accepted, analyse};
 use translate_buffers::{clear, copy};
 use translate_image::image;
 use x_program::row;
+use x_tokens::refusal::Refusal;
 
+// A record with a number, as C's out words and the theorems have it (`gutilamboy::translate`, `Translates` of theorem_demands): no Result.
 // The answer: document 01's number and place, 0 and 0 where the source is accepted, and the counts, all 0 where it is refused.
 #[derive(Drop)]
 pub struct Translation {
@@ -33,13 +36,13 @@ pub struct Translation {
 }
 
 // A refusal: number and place. The buffers are lent to it for its promise: yesterday's table and image stay in them.
-fn refuse(table: &mut [u32], code: &mut [u8], number: u32, place: u32) -> Translation
-    ensures { left result table.new code.new ≡ translated table.old code.old (front.refused number place) }
+fn refuse(table: &mut [u32], code: &mut [u8], refusal: Refusal) -> Translation
+    ensures { left result table.new code.new ≡ translated table.old code.old (front.refused (number refusal.reason) refusal.place) }
 {
     // neither buffer is written to
     Translation {
-        status: number,
-        place,
+        status: u32::from(refusal.reason),
+        place: refusal.place,
         tokens: 0,
         rows: 0,
         data: 0,
@@ -69,47 +72,22 @@ fn fill_code(rows: &[u32], count: usize, code: &mut [u8]) -> usize
 }
 
 // An accepted program: the rows that the table is to have stand in `rows`.
-fn accept(
-    rows: &[u32],
-    tokens: usize,
-    count: usize,
-    words: u32,
-    depth: usize,
-    table: &mut [u32],
-    code: &mut [u8],
-) -> Translation
-    requires { (length rows.now ≡ 4096) × ((q : tree.Program) × Parts rows.now (length table.old) (length code.old) tokens count words depth q) }
-    ensures { (q : tree.Program) → Parts rows.now (length table.old) (length code.old) tokens count words depth q
-        → left result table.new code.new ≡ translated table.old code.old (front.accepted tokens q) }
+fn accept(rows: &[u32; 4096], accepted: Accepted, table: &mut [u32], code: &mut [u8]) -> Translation
+    requires { (q : tree.Program) × Parts rows.now (length table.old) (length code.old) accepted.tokens accepted.rows accepted.words accepted.depth q }
+    ensures { (q : tree.Program) → Parts rows.now (length table.old) (length code.old) accepted.tokens accepted.rows accepted.words accepted.depth q
+        → left result table.new code.new ≡ translated table.old code.old (front.accepted accepted.tokens q) }
 {
-    fill_table(rows, count, table);
-    let end = fill_code(rows, count, code);
+    fill_table(rows, accepted.rows, table);
+    let end = fill_code(rows, accepted.rows, code);
     Translation {
         status: 0,
         place: 0,
-        tokens: tokens as u32,
-        rows: count as u32,
-        data: words,
-        depth: depth as u32,
+        tokens: accepted.tokens as u32,
+        rows: accepted.rows as u32,
+        data: accepted.words,
+        depth: accepted.depth as u32,
         code: end as u32,
     }
-}
-
-// The same with the working table as an array.
-fn accept_rows(
-    rows: &[u32; 4096],
-    tokens: usize,
-    count: usize,
-    words: u32,
-    depth: usize,
-    table: &mut [u32],
-    code: &mut [u8],
-) -> Translation
-    requires { (q : tree.Program) × Parts rows.now (length table.old) (length code.old) tokens count words depth q }
-    ensures { (q : tree.Program) → Parts rows.now (length table.old) (length code.old) tokens count words depth q
-        → left result table.new code.new ≡ translated table.old code.old (front.accepted tokens q) }
-{
-    accept(rows, tokens, count, words, depth, table, code)
 }
 
 // A source, a lent table of words and a lent code buffer of bytes. No heap; working arrays of 30 KB, and the stack that the recursion
@@ -118,11 +96,8 @@ pub fn translate(source: &[u8], table: &mut [u32], code: &mut [u8]) -> Translati
     ensures { left result table.new code.new ≡ translation source.now table.old code.old }
 {
     let mut rows: [u32; 4096] = [0; 4096];
-    let a = analyse(source, table.len(), code.len(), &mut rows);
-    match a {
-        Analysis::Refused(number, place) => refuse(table, code, number, place),
-        Analysis::Accepted(tokens, count, words, depth) => {
-            accept_rows(&rows, tokens, count, words, depth, table, code)
-        }
+    match analyse(source, table.len(), code.len(), &mut rows) {
+        Err(refusal) => refuse(table, code, refusal),
+        Ok(accepted) => accept(&rows, accepted, table, code),
     }
 }

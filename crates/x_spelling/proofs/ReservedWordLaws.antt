@@ -1,5 +1,5 @@
 -- A name is looked up right and with few comparisons: the lookup finds what the table gives, after two comparisons at most. Laws; rests on Words, WordLookup and Runs.
-use Rattle.std.specs.Prelude.{◌≡◌, refl, Bool, true, false, List, [], ◌∷◌, ◌⊎◌, ℕ, suc, ◌≤◌, eqb, leb, length, get_or}
+use Rattle.std.specs.Prelude.{◌≡◌, refl, Bool, true, false, List, [], ◌∷◌, ◌⊎◌, ℕ, suc, ◌≤◌, eqb, leb, length, get_or, Some}
 use Rattle.std.proofs.Common.{inl, inr, ⊎_elim, arith, eqb-true, leb-true}
 use Rattle.std.proofs.lemmas.Bool.{eqb-false}
 use Rattle.arm_word.specs.Ascii.{ascii}
@@ -8,7 +8,6 @@ use Rattle.arm_word.specs.ChoiceLaws.{by_test, both}
 use Rattle.x_spelling.specs.Words.{same, Entry, reserved, first_match}
 use Rattle.x_spelling.specs.WordLookup.{candidate, keep, candidates, candidates_of, looked, compare, look_up}
 use Rattle.x_spelling.specs.Runs.{same_length, same_first}
-use Rattle.x_spelling.specs.declared.Found.TheVariants.{Reserved}
 use Rattle.x_spelling.specs.ReservedWordLaws.{compared_among, every}
 
 -- a name is the same as none but its candidates
@@ -23,7 +22,7 @@ unfolding candidates compare first_match
 found_among w [] n = refl
 found_among w (e ∷ es) n = let left = candidates (length w) (get_or w 0 0) es in
     by_test (λ t. (compare (keep t e left) w n).found ≡ first_match (e ∷ es) w) (candidate (length w) (get_or w 0 0) e)
-    (λ _. by_test (λ t. (pick t (looked (Reserved e.token) (suc n)) (compare left w (suc n))).found ≡ pick t (Reserved e.token) (first_match es w)) (same w e.bytes)
+    (λ _. by_test (λ t. (pick t (looked (Some e.token) (suc n)) (compare left w (suc n))).found ≡ pick t (Some e.token) (first_match es w)) (same w e.bytes)
     (λ _. refl) (λ _. found_among w es (suc n)))
     (λ f. rw (missed w e f) (found_among w es n))
 

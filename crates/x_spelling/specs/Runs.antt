@@ -1,6 +1,7 @@
 -- Runs of bytes, numerals, membership and sameness, byte by byte at an index. Laws.
 -- Rests on Characters and Words.
-use Rattle.std.specs.Prelude.{◌≡◌, refl, Bool, true, false, List, [], ◌∷◌, ℕ, suc, ◌+◌, ◌*◌, ◌<◌, ◌≤◌, min, eqb, ltb, length, get_or, drop}
+use Rattle.std.specs.Prelude.{◌≡◌, refl, Bool, true, false, List, [], ◌∷◌, ℕ, suc, ◌+◌, ◌*◌, ◌<◌, ◌≤◌, min, eqb, ltb, length, get_or, drop, nat_eq, ◌&&◌, ◌||◌}
+use Rattle.std.specs.List.{list_any}
 use Rattle.std.proofs.Common.{ap, arith, mul-le-mul_left, mul-one, add-one}
 use Rattle.std.proofs.Math.ListN.{drop_of_length-le}
 use Rattle.std.proofs.Math.Seq.{drop-cons}
@@ -8,6 +9,7 @@ use borrow.Author.Tests.{eq-eqb, ne_eqb, eqb-true, ltb-true, ltb-false}
 use Rattle.arm_word.specs.Choice.{pick}
 use Rattle.arm_word.specs.ChoiceLaws.{pick_false, by_test, both}
 use Rattle.x_spelling.specs.Characters.{one_of, in_class, digit, digit_value, span, numeral}
+use lib.Pointwise.{pointwise}
 use Rattle.x_spelling.specs.Words.{same}
 use Rattle.x_spelling.specs.declared.Class.{Class}
 
@@ -99,6 +101,19 @@ same_first [] [] h = absurd (h refl)
 same_first [] (y ∷ b) h = refl
 same_first (x ∷ a) [] h = refl
 same_first (x ∷ a) (y ∷ b) h = by_test (λ t. pick t (same a b) false ≡ false) (eqb x y) (λ e. absurd (h (eqb-true x y e))) (λ e. refl)
+
+-- what `contains` and `==` say of bytes
+pub one_of_any : (xs : List ℕ) (b : ℕ) → list_any (λ y. nat_eq y b) xs ≡ one_of xs b
+unfolding one_of
+one_of_any [] b = refl
+one_of_any (x ∷ xs) b = by_test (λ t. (t || list_any (λ y. nat_eq y b) xs) ≡ pick t true (one_of xs b)) (eqb x b) (λ _. refl) (λ _. one_of_any xs b)
+
+pub same_pointwise : (a b : List ℕ) → pointwise nat_eq a b ≡ same a b
+unfolding same
+same_pointwise [] [] = refl
+same_pointwise [] (y ∷ b) = refl
+same_pointwise (x ∷ a) [] = refl
+same_pointwise (x ∷ a) (y ∷ b) = by_test (λ t. (t && pointwise nat_eq a b) ≡ pick t (same a b) false) (eqb x y) (λ _. same_pointwise a b) (λ _. refl)
 
 -- what is the same is equal, and the other way round
 pub same_equal : (a b : List ℕ) → same a b ≡ true → a ≡ b

@@ -1,10 +1,9 @@
 -- How a name is looked up among the reserved words, and with how many it is compared in full: request 2026-03. Definitions.
 -- Rests on Words.
-use Rattle.std.specs.Prelude.{Bool, true, false, List, [], ◌∷◌, ℕ, suc, eqb, length, get_or}
+use Rattle.std.specs.Prelude.{Bool, true, false, List, [], ◌∷◌, ℕ, suc, eqb, length, get_or, Option, None, Some}
 use Rattle.arm_word.specs.Choice.{pick}
 use Rattle.x_spelling.specs.Words.{same, Entry, reserved}
-use Rattle.x_spelling.specs.declared.Found.{Found}
-use Rattle.x_spelling.specs.declared.Found.TheVariants.{Reserved, Free}
+use Rattle.x_spelling.specs.declared.Word.{Word}
 use Rattle.x_spelling.specs.declared.Lookup.{Lookup}
 
 -- has this length and first letter
@@ -26,13 +25,13 @@ abbrev pub candidates_of : List ℕ → List Entry
 candidates_of w = candidates (length w) (get_or w 0 0) reserved
 
 -- what was found after n comparisons
-abbrev pub looked : Found → ℕ → Lookup
+abbrev pub looked : Option Word → ℕ → Lookup
 looked found n = record { found = found; compared = n }
 
 -- "compare a name in full .. up to the match, and let the lookup report how many": the match is counted too; n were compared before
 unfoldable pub compare : List Entry → List ℕ → ℕ → Lookup
-compare [] w n = looked Free n
-compare (e ∷ es) w n = pick (same w e.bytes) (looked (Reserved e.token) (suc n)) (compare es w (suc n))
+compare [] w n = looked None n
+compare (e ∷ es) w n = pick (same w e.bytes) (looked (Some e.token) (suc n)) (compare es w (suc n))
 
 -- a name among its candidates
 abbrev pub look_up : List ℕ → Lookup

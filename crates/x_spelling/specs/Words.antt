@@ -1,14 +1,12 @@
 -- Reserved words, and what a name's bytes stand for. Definitions.
 -- Rests on Kinds, and on choice by a test, quoted texts and truth values of crate `arm_word`.
-use Rattle.std.specs.Prelude.{Bool, true, false, List, [], ◌∷◌, ℕ, eqb, length}
+use Rattle.std.specs.Prelude.{Bool, true, false, List, [], ◌∷◌, ℕ, eqb, length, Option, None, Some}
 use Prim.Native.String.{String}
 use Rattle.arm_word.specs.Ascii.{ascii}
 use Rattle.arm_word.specs.Choice.{pick}
 use Rattle.arm_word.specs.Word.{truth}
 use Rattle.x_spelling.specs.Kinds as kinds
 use Rattle.x_spelling.specs.declared.Word.{Word}
-use Rattle.x_spelling.specs.declared.Found.{Found}
-use Rattle.x_spelling.specs.declared.Found.TheVariants.{Reserved, Free}
 
 -- two byte strings are the same
 unfoldable pub same : List ℕ → List ℕ → Bool
@@ -66,14 +64,14 @@ reserved =
 -- ── what a name stands for ──
 
 -- the first of a list of reserved words that a name is the same as
-unfoldable pub first_match : List Entry → List ℕ → Found
-first_match [] w = Free
-first_match (e ∷ es) w = pick (same w e.bytes) (Reserved e.token) (first_match es w)
+unfoldable pub first_match : List Entry → List ℕ → Option Word
+first_match [] w = None
+first_match (e ∷ es) w = pick (same w e.bytes) (Some e.token) (first_match es w)
 
 -- the token of what was found: a reserved word's, else a name with its length
-abbrev pub token_of : List ℕ → Found → Word
-token_of w (Reserved t) = t
-token_of w Free = is kinds.name (length w)
+abbrev pub token_of : List ℕ → Option Word → Word
+token_of w (Some t) = t
+token_of w None = is kinds.name (length w)
 
 -- what a name's bytes stand for: the first match in the table, else a name
 abbrev pub word : List ℕ → Word

@@ -1,4 +1,5 @@
-// The kinds of tokens, by number: see specs/Kinds.antt.
+// The kinds of tokens, by number: see specs/Kinds.antt. Numbers, not an enum: `x_tokens::tokens`, which the docs name, fills arrays of them,
+// and an operator's kind is reckoned from its number in the syntax table (OPERATOR_BASE).
 pub const NUMBER: u8 = 1;
 
 pub const NAME: u8 = 2;

@@ -25,17 +25,10 @@ pub struct Word {
     pub value: u32,
 }
 
-// What a name was found to be: a reserved word, with its token, or free to be declared.
-#[derive(Clone, Copy)]
-pub enum Found {
-    Reserved(Word),
-    Free,
-}
-
-// What a name was found to be, and with how many reserved words it was compared in full.
+// The token of the reserved word that a name is, if it is one, and with how many of them it was compared in full.
 #[derive(Clone, Copy)]
 pub struct Lookup {
-    pub found: Found,
+    pub found: Option<Word>,
     pub compared: u32,
 }
 
@@ -45,79 +38,46 @@ const TRUE: u32 = 0xffff_ffff;
 pub fn one_of(set: &[u8], b: u8) -> bool
     ensures { result ≡ one_of set.now b }
 {
-    let mut i = 0;
-    while i < set.len() {
-        if set[i] == b {
-            return true;
-        }
-        i += 1;
-    }
-    false
-}
-
-fn within(low: u8, high: u8, b: u8) -> bool
-    ensures { result ≡ characters.within low high b }
-{
-    if low <= b { b <= high } else { false }
+    set.contains(&b)
 }
 
 pub fn letter(b: u8) -> bool
     ensures { result ≡ characters.letter b }
 {
-    if within(b'a', b'z', b) {
-        true
-    } else {
-        within(b'A', b'Z', b)
-    }
+    b.is_ascii_alphabetic()
 }
 
+#[tactic(auto, unfolding(crate::specs::Characters::digit_value))]
 pub fn digit_value(b: u8) -> u32
     ensures { result ≡ characters.digit_value b }
 {
-    if within(b'0', b'9', b) {
-        return (b - b'0') as u32;
+    match b {
+        b'0'..=b'9' => (b - b'0') as u32,
+        b'a'..=b'f' => (b - b'a') as u32 + 10,
+        b'A'..=b'F' => (b - b'A') as u32 + 10,
+        _ => 16,
     }
-    if within(b'a', b'f', b) {
-        return (b - 87) as u32;
-    }
-    if within(b'A', b'F', b) {
-        return (b - 55) as u32;
-    }
-    16
 }
 
+#[tactic(auto, unfolding(crate::specs::Characters::name_character))]
 fn name_character(b: u8) -> bool
     ensures { result ≡ characters.name_character b }
 {
-    if letter(b) {
-        return true;
-    }
-    if digit_value(b) < 10 {
-        return true;
-    }
-    b == b'_'
+    letter(b) || digit_value(b) < 10 || b == b'_'
 }
 
+#[tactic(auto, unfolding(crate::specs::Characters::character))]
 fn character(b: u8) -> bool
     ensures { result ≡ characters.character b }
 {
-    if letter(b) {
-        return true;
-    }
-    if digit_value(b) < 10 {
-        return true;
-    }
-    one_of(b"!\"#&'()*+,-_./:;<=>?[]{}", b)
+    letter(b) || digit_value(b) < 10 || one_of(b"!\"#&'()*+,-_./:;<=>?[]{}", b)
 }
 
+#[tactic(auto, unfolding(crate::specs::Characters::literal_character))]
 pub fn literal_character(b: u8) -> bool
     ensures { result ≡ characters.literal_character b }
 {
-    if one_of(b"*'\"", b) {
-        false
-    } else {
-        character(b)
-    }
+    !one_of(b"*'\"", b) && character(b)
 }
 
 fn in_class(class: Class, b: u8) -> bool
@@ -125,7 +85,7 @@ fn in_class(class: Class, b: u8) -> bool
 {
     match class {
         Class::Name => name_character(b),
-        Class::Comment => { if b == b'|' { false } else { true } }
+        Class::Comment => b != b'|',
         Class::Digit(base) => {
             let value = digit_value(b) as u64;
             value < base
@@ -137,8 +97,8 @@ fn in_class(class: Class, b: u8) -> bool
 pub fn byte(s: &[u8], i: usize, k: usize) -> u8
     ensures { result ≡ get_or (drop i s.now) k 0 }
 {
-    if i < s.len() {
-        if k < s.len() - i { s[i + k] } else { 0 }
+    if i < s.len() && k < s.len() - i {
+        s[i + k]
     } else {
         0
     }
@@ -148,15 +108,12 @@ pub fn byte(s: &[u8], i: usize, k: usize) -> u8
 pub fn span(s: &[u8], class: Class, i: usize) -> usize
     ensures { result ≡ characters.span class (drop i s.now) }
 {
-    let mut j = i;
-    while j < s.len() {
-        if in_class(class, s[j]) {
-            j += 1;
-        } else {
+    for j in i..s.len() {
+        if !in_class(class, s[j]) {
             return j - i;
         }
     }
-    j - i
+    s.len().saturating_sub(i)
 }
 
 // The number that digits make with one more, cut off at 2^32.
@@ -164,8 +121,7 @@ fn pushed(base: u64, a: u64, digit: u32) -> u64
     requires { (base ≤ 16) × ((a ≤ 4294967296) × (digit ≤ 16)) }
     ensures { result ≡ min (a * base + digit) 4294967296 }
 {
-    let x = a * base + digit as u64;
-    if x < 4294967296 { x } else { 4294967296 }
+    (a * base + digit as u64).min(4294967296)
 }
 
 // The number that the digits from i on make, cut off at 2^32.
@@ -174,35 +130,22 @@ pub fn numeral(s: &[u8], base: u64, i: usize) -> u64
     ensures { result ≡ min (characters.numeral base (drop i s.now) 0) 4294967296 }
 {
     let mut a: u64 = 0;
-    let mut j = i;
-    while j < s.len() {
+    for j in i..s.len() {
         let digit = digit_value(s[j]);
-        if (digit as u64) < base {
-            a = pushed(base, a, digit);
-            j += 1;
-        } else {
+        if (digit as u64) >= base {
             return a;
         }
+        a = pushed(base, a, digit);
     }
     a
 }
 
+// A function, since tests/all/words.rs counts its calls (`every_comparison_is_counted`).
+#[tactic(auto, using(crate::specs::Runs::same_pointwise))]
 pub fn equal(a: &[u8], b: &[u8]) -> bool
     ensures { result ≡ same a.now b.now }
 {
-    if a.len() == b.len() {
-        let mut i = 0;
-        while i < a.len() {
-            if a[i] == b[i] {
-                i += 1;
-            } else {
-                return false;
-            }
-        }
-        true
-    } else {
-        false
-    }
+    a == b
 }
 
 fn is(kind: u8, value: u32) -> Word
@@ -211,36 +154,39 @@ fn is(kind: u8, value: u32) -> Word
     Word { kind, value }
 }
 
-fn looked(found: Found, compared: u32) -> Lookup
+fn looked(found: Option<Word>, compared: u32) -> Lookup
     ensures { result ≡ lookup.looked found compared }
 {
     Lookup { found, compared }
 }
 
 // A name compared with one reserved word.
+#[tactic(auto, unfolding(crate::specs::WordLookup::compare))]
 fn only(w: &[u8], bytes: &[u8], token: Word) -> Lookup
     ensures { result ≡ lookup.compare (words.entry bytes.now token ∷ []) w.now 0 }
 {
     if equal(w, bytes) {
-        return looked(Found::Reserved(token), 1);
+        return looked(Some(token), 1);
     }
-    looked(Found::Free, 1)
+    looked(None, 1)
 }
 
 // A name compared with one reserved word and, if it isn't that, with another.
+#[tactic(auto, unfolding(crate::specs::WordLookup::compare))]
 fn pair(w: &[u8], bytes: &[u8], token: Word, bytes2: &[u8], token2: Word) -> Lookup
     ensures { result ≡ lookup.compare (words.entry bytes.now token ∷ words.entry bytes2.now token2 ∷ []) w.now 0 }
 {
     if equal(w, bytes) {
-        return looked(Found::Reserved(token), 1);
+        return looked(Some(token), 1);
     }
     if equal(w, bytes2) {
-        return looked(Found::Reserved(token2), 2);
+        return looked(Some(token2), 2);
     }
-    looked(Found::Free, 2)
+    looked(None, 2)
 }
 
 // The reserved words of two letters, by the first; then those of three to six.
+#[tactic(auto, unfolding(crate::specs::WordLookup::candidates, crate::specs::Words::reserved, crate::specs::WordLookup::compare))]
 fn of_two(w: &[u8]) -> Lookup
     ensures { result ≡ lookup.compare (lookup.candidates 2 (get_or w.now 0 0) words.reserved) w.now 0 }
 {
@@ -249,10 +195,11 @@ fn of_two(w: &[u8]) -> Lookup
         b'd' => only(w, b"do", is(kind::DO, 0)),
         b'i' => pair(w, b"if", is(kind::IF, 0), b"is", is(kind::IS, 0)),
         b'o' => only(w, b"or", is(kind::OR, 0)),
-        _ => looked(Found::Free, 0),
+        _ => looked(None, 0),
     }
 }
 
+#[tactic(auto, unfolding(crate::specs::WordLookup::candidates, crate::specs::Words::reserved, crate::specs::WordLookup::compare))]
 fn of_three(w: &[u8]) -> Lookup
     ensures { result ≡ lookup.compare (lookup.candidates 3 (get_or w.now 0 0) words.reserved) w.now 0 }
 {
@@ -262,10 +209,11 @@ fn of_three(w: &[u8]) -> Lookup
         b'n' => only(w, b"not", is(kind::NOT, 0)),
         b'v' => pair(w, b"val", is(kind::VAL, 0), b"var", is(kind::VAR, 0)),
         b'x' => only(w, b"xor", is(kind::XOR, 0)),
-        _ => looked(Found::Free, 0),
+        _ => looked(None, 0),
     }
 }
 
+#[tactic(auto, unfolding(crate::specs::WordLookup::candidates, crate::specs::Words::reserved, crate::specs::WordLookup::compare))]
 fn of_four(w: &[u8]) -> Lookup
     ensures { result ≡ lookup.compare (lookup.candidates 4 (get_or w.now 0 0) words.reserved) w.now 0 }
 {
@@ -282,10 +230,11 @@ fn of_four(w: &[u8]) -> Lookup
             b"true",
             is(kind::NUMBER, TRUE),
         ),
-        _ => looked(Found::Free, 0),
+        _ => looked(None, 0),
     }
 }
 
+#[tactic(auto, unfolding(crate::specs::WordLookup::candidates, crate::specs::Words::reserved, crate::specs::WordLookup::compare))]
 fn of_five(w: &[u8]) -> Lookup
     ensures { result ≡ lookup.compare (lookup.candidates 5 (get_or w.now 0 0) words.reserved) w.now 0 }
 {
@@ -295,21 +244,23 @@ fn of_five(w: &[u8]) -> Lookup
         b'f' => only(w, b"false", is(kind::NUMBER, 0)),
         b'v' => only(w, b"valof", is(kind::VALOF, 0)),
         b'w' => only(w, b"while", is(kind::WHILE, 0)),
-        _ => looked(Found::Free, 0),
+        _ => looked(None, 0),
     }
 }
 
+#[tactic(auto, unfolding(crate::specs::WordLookup::candidates, crate::specs::Words::reserved, crate::specs::WordLookup::compare))]
 fn of_six(w: &[u8]) -> Lookup
     ensures { result ≡ lookup.compare (lookup.candidates 6 (get_or w.now 0 0) words.reserved) w.now 0 }
 {
     let first = byte(w, 0, 0);
     match first {
         b'r' => only(w, b"return", is(kind::RETURN, 0)),
-        _ => looked(Found::Free, 0),
+        _ => looked(None, 0),
     }
 }
 
 // The reserved words of a name's length and first letter, up to the one that it is.
+#[tactic(auto, unfolding(crate::specs::WordLookup::candidates, crate::specs::Words::reserved, crate::specs::WordLookup::compare))]
 pub fn look_up(w: &[u8]) -> Lookup
     ensures { result ≡ lookup.look_up w.now }
 {
@@ -319,18 +270,15 @@ pub fn look_up(w: &[u8]) -> Lookup
         4 => of_four(w),
         5 => of_five(w),
         6 => of_six(w),
-        _ => looked(Found::Free, 0),
+        _ => looked(None, 0),
     }
 }
 
 // The token of a name's bytes.
+#[tactic(auto, using(crate::proofs::ReservedWordLaws::look_up_right))]
 pub fn word_of(w: &[u8]) -> Word
     requires { length w.now ≤ 32 }
     ensures { result ≡ words.word w.now }
 {
-    let found = look_up(w).found;
-    match found {
-        Found::Reserved(token) => token,
-        Found::Free => is(kind::NAME, w.len() as u32),
-    }
+    look_up(w).found.unwrap_or(is(kind::NAME, w.len() as u32))
 }

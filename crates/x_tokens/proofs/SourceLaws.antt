@@ -50,7 +50,7 @@ sound_also size t (refused n q) l s = s
 
 sound_taken : (size p c : ℕ) (l : Lexeme) (rest : ℕ → ℕ → Outcome) → size ≤ 16384 → p < size → Good (size - p) l → ((n d : ℕ) → Sound size (p + 1) (rest n d)) → Sound size p (taken l p c rest)
 sound_taken size p c Separator rest m h g r = sound_earlier size p (p + 1) (rest 0 c) (omega arith) (r 0 c)
-sound_taken size p c (Broken n) rest m h g r = (omega arith, omega arith, omega arith, omega arith)
+sound_taken size p c (Broken reason) rest m h g r = (omega arith, omega arith, omega arith, omega arith)
 sound_taken size p c (Token k n v) rest m h g r =
     by_test (λ (b : Bool). Sound size p (pick b (refused refusal.many_tokens p) (also (record { kind = k; place = p; value = v }) (rest (n - 1) (c + 1))))) (leb 1024 c)
     (λ _. (omega arith, omega arith, omega arith, omega arith)) (λ _. sound_also size (record { kind = k; place = p; value = v }) (rest (n - 1) (c + 1)) (lies size p k n v h g) (r (n - 1) (c + 1)))

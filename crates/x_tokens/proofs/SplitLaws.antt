@@ -4,6 +4,7 @@ use Rattle.std.proofs.Common.{arith, eqb-true, leb-true, leb-false}
 use Rattle.arm_word.specs.Choice.{pick}
 use Rattle.arm_word.specs.ChoiceLaws.{by_test}
 use Rattle.x_tokens.specs.Refusals as refusal
+use Rattle.x_tokens.specs.Refusals.{number}
 use Rattle.x_tokens.specs.Lexemes.{lexeme}
 use Rattle.x_tokens.specs.LexemeLaws.{Good, lexeme_good}
 use Rattle.x_tokens.specs.TokenList.{Entry, Outcome, read, refused, also, taken, scan}
@@ -28,8 +29,8 @@ past_earlier p q (next t k s) h a = (omega (arith, a.0), past_earlier p q s h a.
 past_marked : (l : Lexeme) (u : Unlimited) (p : ℕ) (rest : ℕ → Split) → ((n : ℕ) → Past (p + 1) (rest n)) → Past p (marked l u p rest)
 past_marked Separator u p rest h = past_earlier p (p + 1) (rest 0) (omega arith) (h 0)
 past_marked (Token k n v) u p rest h = (omega arith, past_earlier p (p + 1) (rest (n - 1)) (omega arith) (h (n - 1)))
-past_marked (Broken n) u p rest h =
-    by_test (λ (b : Bool). Past p (pick b (broken p) (next (record { kind = u.kind; place = p; value = u.value }) n (rest (u.size - 1))))) (eqb n 2)
+past_marked (Broken r) u p rest h =
+    by_test (λ (b : Bool). Past p (pick b (broken p) (next (record { kind = u.kind; place = p; value = u.value }) (number r) (rest (u.size - 1))))) (eqb (number r) 2)
     (λ _. omega arith) (λ _. (omega arith, past_earlier p (p + 1) (rest (u.size - 1)) (omega arith) (h (u.size - 1))))
 
 past_split : (bs : List ℕ) (skip p : ℕ) → Past p (split_from bs skip p)
@@ -48,8 +49,8 @@ Small (next t k s) = (k ≤ 4) × Small s
 small_marked : (left : ℕ) (l : Lexeme) (u : Unlimited) (p : ℕ) (rest : ℕ → Split) → Good left l → ((n : ℕ) → Small (rest n)) → Small (marked l u p rest)
 small_marked left Separator u p rest g h = h 0
 small_marked left (Token k n v) u p rest g h = (omega arith, h (n - 1))
-small_marked left (Broken n) u p rest g h =
-    by_test (λ (b : Bool). Small (pick b (broken p) (next (record { kind = u.kind; place = p; value = u.value }) n (rest (u.size - 1))))) (eqb n 2) (λ _. tt) (λ _. (g.1, h (u.size - 1)))
+small_marked left (Broken r) u p rest g h =
+    by_test (λ (b : Bool). Small (pick b (broken p) (next (record { kind = u.kind; place = p; value = u.value }) (number r) (rest (u.size - 1))))) (eqb (number r) 2) (λ _. tt) (λ _. (g.1, h (u.size - 1)))
 
 small_split : (bs : List ℕ) (skip p : ℕ) → Small (split_from bs skip p)
 unfolding split_from
@@ -112,7 +113,8 @@ module _ (left p c : ℕ) (u : Unlimited) (next_outcome : ℕ → ℕ → Outcom
       by_test (λ (b : Bool). Agrees c (next t 0 s) (pick b (refused refusal.many_tokens p) (also t (next_outcome (n - 1) (c + 1))))) (leb 1024 c)
       (λ e. let l = leb-true 1024 c e in (by_count there (omega arith), first 5 (past (n - 1)) (λ z. absurd (omega arith)) (omega arith)))
       (λ e. let l : c < 1024 = leb-false 1024 c e in agree_also c t s (next_outcome (n - 1) (c + 1)) l (agree (n - 1) (c + 1) (omega arith)))
-  agree_taken (Broken n) g =
+  agree_taken (Broken r) g =
+      let n = number r in
       let t : Entry = record { kind = u.kind; place = p; value = u.value } in
       by_test (λ (b : Bool). Agrees c (pick b (broken p) (next t n (next_split (u.size - 1)))) (refused n p)) (eqb n 2)
       (λ e. rw (eqb-true n 2 e) (by_token no_token (omega arith), no_more))

@@ -12,9 +12,10 @@ use Rattle.x_spelling.specs.Words.{reserved, word}
 use Rattle.x_spelling.specs.ReservedWordLaws.{every, word_has}
 use Rattle.x_tokens.specs.Lexemes.{at, spelled, named, number, escape_value, closed, hexadecimal_escape, escape, byte_literal, comment, single, double, symbol, lexeme}
 use Rattle.x_spelling.specs.Runs.{span_length}
-use Rattle.x_tokens.specs.Refusals as refusal
+use Rattle.x_tokens.specs.declared.refusal.Reason.TheVariants.{BrokenToken, LargeNumber, LongName}
 use Rattle.x_spelling.specs.declared.Class.TheVariants.{Name, Comment, Digit}
 use Rattle.x_spelling.specs.declared.Word.{Word}
+use Rattle.x_tokens.specs.Refusals as refusal
 use Rattle.x_tokens.specs.declared.Lexeme.{Lexeme}
 use Rattle.x_tokens.specs.declared.Lexeme.TheVariants.{Separator, Token, Broken}
 
@@ -36,14 +37,14 @@ pub record Fits (left kind n value : ℕ) : Type 0 where
 abbrev pub Good : ℕ → Lexeme → Type 0
 Good left Separator = Unit {0}
 Good left (Token k n v) = Fits left k n v
-Good left (Broken n) = (2 ≤ n) × (n ≤ 4)
+Good left (Broken r) = (2 ≤ refusal.number r) × (refusal.number r ≤ 4)
 
 -- a choice has what both of its answers have
 holds {ℓ} : {A : Type 0} (P : A → Type ℓ) (b : Bool) (x y : A) → (b ≡ true → P x) → (b ≡ false → P y) → P (pick b x y)
 holds P true x y f g = f refl
 holds P false x y f g = g refl
 
-broken : (left : ℕ) → Good left (Broken refusal.broken_token)
+broken : (left : ℕ) → Good left (Broken BrokenToken)
 broken left = (omega arith, omega arith)
 
 inside : (s : List ℕ) (i k : ℕ) → get_or s i 0 ≡ k → 0 < k → i < length s
@@ -90,8 +91,8 @@ double_none b = simp both_ways
 symbol_good : (b c left : ℕ) → 1 ≤ left → (¬ (c ≡ 0) → 2 ≤ left) → Good left (symbol b c)
 unfolding symbol
 symbol_good b c left one two =
-    holds (Good left) (eqb (double b c) 0) (pick (eqb (single b) 0) (Broken refusal.broken_token) (Token (single b) 1 0)) (Token (double b c) 2 0)
-    (λ e. holds (Good left) (eqb (single b) 0) (Broken refusal.broken_token) (Token (single b) 1 0) (λ f. broken left)
+    holds (Good left) (eqb (double b c) 0) (pick (eqb (single b) 0) (Broken BrokenToken) (Token (single b) 1 0)) (Token (double b c) 2 0)
+    (λ e. holds (Good left) (eqb (single b) 0) (Broken BrokenToken) (Token (single b) 1 0) (λ f. broken left)
     (λ f. record { some = omega arith; inside = one; matching = plain_matched 1 (single b) (single_plain 1 b) f; short = λ _. omega arith }))
     (λ e. record {
       some = omega arith;
@@ -105,7 +106,7 @@ symbol_good b c left one two =
 comment_good : (bs : List ℕ) → Good (suc (length bs)) (comment bs)
 unfolding comment
 comment_good bs =
-    holds (Good (suc (length bs))) (eqb (at bs (span Comment bs)) 124) (Token kinds.comment (span Comment bs + 2) 0) (Broken refusal.broken_token)
+    holds (Good (suc (length bs))) (eqb (at bs (span Comment bs)) 124) (Token kinds.comment (span Comment bs + 2) 0) (Broken BrokenToken)
     (λ e. let h = inside bs (span Comment bs) 124 (eqb-true _ 124 e) (omega arith) in
     record { some = omega arith; inside = omega arith; matching = refl; short = λ n. omega arith })
     (λ e. broken (suc (length bs)))
@@ -119,9 +120,9 @@ number_good base limit before left bs h room =
     let n = span (Digit base) bs in
     let v = numeral base bs 0 in
     let l = span_length (Digit base) bs in
-    holds (Good left) (eqb n 0) (Broken refusal.broken_token) (pick (leb v limit) (Token kinds.number (before + n) v) (Broken refusal.large_number)) (λ e. broken left)
+    holds (Good left) (eqb n 0) (Broken BrokenToken) (pick (leb v limit) (Token kinds.number (before + n) v) (Broken LargeNumber)) (λ e. broken left)
     (λ e. let d = eqb-false n 0 e in
-    holds (Good left) (leb v limit) (Token kinds.number (before + n) v) (Broken refusal.large_number)
+    holds (Good left) (leb v limit) (Token kinds.number (before + n) v) (Broken LargeNumber)
     (λ f. let m = leb-true v limit f in number_token left (before + n) v (omega arith) (omega arith) (omega arith)) (λ f. (omega arith, omega arith)))
 
 -- byte literals
@@ -174,7 +175,7 @@ escape_below b = search below_pick depth 30
 closed_good : (bs : List ℕ) (n v : ℕ) → v < 4294967296 → Good (length bs) (closed bs n v)
 unfolding closed
 closed_good bs n v h =
-    holds (Good (length bs)) (eqb (at bs n) 39) (Token kinds.number (n + 1) v) (Broken refusal.broken_token)
+    holds (Good (length bs)) (eqb (at bs n) 39) (Token kinds.number (n + 1) v) (Broken BrokenToken)
     (λ e. let i = inside bs n 39 (eqb-true _ 39 e) (omega arith) in number_token (length bs) (n + 1) v (omega arith) (omega arith) h) (λ e. broken (length bs))
 
 hexadecimal_good : (bs : List ℕ) → Good (length bs) (hexadecimal_escape bs)
@@ -182,8 +183,8 @@ unfolding hexadecimal_escape
 hexadecimal_good bs =
     let h = digit_value (at bs 3) in
     let l = digit_value (at bs 4) in
-    holds (Good (length bs)) (ltb h 16) (pick (ltb l 16) (closed bs 5 (h * 16 + l)) (Broken refusal.broken_token)) (Broken refusal.broken_token)
-    (λ e. holds (Good (length bs)) (ltb l 16) (closed bs 5 (h * 16 + l)) (Broken refusal.broken_token)
+    holds (Good (length bs)) (ltb h 16) (pick (ltb l 16) (closed bs 5 (h * 16 + l)) (Broken BrokenToken)) (Broken BrokenToken)
+    (λ e. holds (Good (length bs)) (ltb l 16) (closed bs 5 (h * 16 + l)) (Broken BrokenToken)
     (λ f. let p = ltb-true h 16 e in let q = ltb-true l 16 f in closed_good bs 5 (h * 16 + l) (omega arith)) (λ f. broken (length bs)))
     (λ e. broken (length bs))
 
@@ -191,15 +192,15 @@ escape_good : (bs : List ℕ) → Good (length bs) (escape bs)
 unfolding escape
 escape_good bs =
     let v = escape_value (at bs 2) in
-    holds (Good (length bs)) (eqb (at bs 2) 35) (hexadecimal_escape bs) (pick (eqb v 0) (Broken refusal.broken_token) (closed bs 3 v)) (λ e. hexadecimal_good bs)
-    (λ e. holds (Good (length bs)) (eqb v 0) (Broken refusal.broken_token) (closed bs 3 v) (λ f. broken (length bs))
+    holds (Good (length bs)) (eqb (at bs 2) 35) (hexadecimal_escape bs) (pick (eqb v 0) (Broken BrokenToken) (closed bs 3 v)) (λ e. hexadecimal_good bs)
+    (λ e. holds (Good (length bs)) (eqb v 0) (Broken BrokenToken) (closed bs 3 v) (λ f. broken (length bs))
     (λ f. let b = ltb-true v 256 (escape_below (at bs 2)) in closed_good bs 3 v (omega arith)))
 
 byte_literal_good : (bs : List ℕ) → Good (length bs) (byte_literal bs)
 unfolding byte_literal
 byte_literal_good bs =
-    holds (Good (length bs)) (eqb (at bs 1) 42) (escape bs) (pick (literal_character (at bs 1)) (closed bs 2 (at bs 1)) (Broken refusal.broken_token)) (λ e. escape_good bs)
-    (λ e. holds (Good (length bs)) (literal_character (at bs 1)) (closed bs 2 (at bs 1)) (Broken refusal.broken_token)
+    holds (Good (length bs)) (eqb (at bs 1) 42) (escape bs) (pick (literal_character (at bs 1)) (closed bs 2 (at bs 1)) (Broken BrokenToken)) (λ e. escape_good bs)
+    (λ e. holds (Good (length bs)) (literal_character (at bs 1)) (closed bs 2 (at bs 1)) (Broken BrokenToken)
     (λ f. let b = character_below (at bs 1) f in closed_good bs 2 (at bs 1) (omega arith)) (λ f. broken (length bs)))
 
 -- names
@@ -216,7 +217,7 @@ named_good b bs h =
     let l = span_length Name (b ∷ bs) in
     let one = some_name b bs h in
     let e : length w ≡ n = length-take-le n (b ∷ bs) l in
-    holds (Good (suc (length bs))) (leb n 32) (spelled n (word w)) (Broken refusal.long_name)
+    holds (Good (suc (length bs))) (leb n 32) (spelled n (word w)) (Broken LongName)
     (λ f. let m = leb-true n 32 f in record { some = one; inside = l; matching = rw e at (word_matched w); short = λ _. m }) (λ f. (omega arith, omega arith))
 
 -- what stands at the front of any bytes

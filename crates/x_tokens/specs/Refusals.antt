@@ -1,5 +1,8 @@
 -- The refusals of a translation, by number. Definitions: document 01, "Limits and refusals".
-use Rattle.std.specs.Prelude.{ℕ}
+use Rattle.std.specs.Prelude.{◌≡◌, refl, false, ℕ, eqb}
+use Rattle.x_tokens.specs.declared.refusal.Reason.{Reason}
+use Rattle.x_tokens.specs.declared.refusal.Reason.TheVariants.{LongSource, BrokenToken, LargeNumber, LongName, ManyTokens, Ungrammatical, DeepProgram}
+use Rattle.x_tokens.specs.declared.refusal.Reason.TheVariants.{NotDeclared, DeclaredTwice, WrongKind, BadLength, TooMuch, ShortTable, ShortCode}
 
 -- "source above 16,384 bytes"
 abbrev pub long_source : ℕ
@@ -56,3 +59,37 @@ short_table = 13
 -- "code buffer shorter than 48 x tokens + 256 bytes"
 abbrev pub short_code : ℕ
 short_code = 14
+
+-- the number of the code's reason
+abbrev pub number : Reason → ℕ
+number LongSource = long_source
+number BrokenToken = broken_token
+number LargeNumber = large_number
+number LongName = long_name
+number ManyTokens = many_tokens
+number Ungrammatical = ungrammatical
+number DeepProgram = deep_program
+number NotDeclared = not_declared
+number DeclaredTwice = declared_twice
+number WrongKind = wrong_kind
+number BadLength = bad_length
+number TooMuch = too_much
+number ShortTable = short_table
+number ShortCode = short_code
+
+-- none is 0, which says that a source is accepted
+pub not_zero : (r : Reason) → eqb (number r) 0 ≡ false
+not_zero LongSource = refl
+not_zero BrokenToken = refl
+not_zero LargeNumber = refl
+not_zero LongName = refl
+not_zero ManyTokens = refl
+not_zero Ungrammatical = refl
+not_zero DeepProgram = refl
+not_zero NotDeclared = refl
+not_zero DeclaredTwice = refl
+not_zero WrongKind = refl
+not_zero BadLength = refl
+not_zero TooMuch = refl
+not_zero ShortTable = refl
+not_zero ShortCode = refl

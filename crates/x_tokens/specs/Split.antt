@@ -35,7 +35,8 @@ unlimited bs =
 abbrev pub marked : Lexeme → Unlimited → ℕ → (ℕ → Split) → Split
 marked Separator u p rest = rest 0
 marked (Token k n v) u p rest = next (record { kind = k; place = p; value = v }) 0 (rest (n - 1))
-marked (Broken n) u p rest = pick (eqb n refusal.broken_token) (broken p) (next (record { kind = u.kind; place = p; value = u.value }) n (rest (u.size - 1)))
+marked (Broken r) u p rest =
+    pick (eqb (refusal.number r) refusal.broken_token) (broken p) (next (record { kind = u.kind; place = p; value = u.value }) (refusal.number r) (rest (u.size - 1)))
 
 -- the bytes from place p on, the first `skip` of which a token has taken already
 unfoldable pub split_from : List ℕ → ℕ → ℕ → Split

@@ -14,6 +14,7 @@ use Rattle.x_spelling.specs.Runs.{drop_one}
 use Rattle.x_tokens.specs.Refusals as refusal
 use Rattle.x_tokens.specs.LexemeLaws.{Fits, Good, lexeme_good}
 use Rattle.x_tokens.specs.declared.Lexeme.{Lexeme}
+use Rattle.x_tokens.specs.declared.refusal.Reason.{Reason}
 use Rattle.x_tokens.specs.declared.Lexeme.TheVariants.{Separator, Token, Broken}
 
 -- tokens before what is to come
@@ -54,8 +55,8 @@ module _ (s : List ℕ) (i c : ℕ) (h : i < length s) where
   pub step_separator : (l : Lexeme) → l ≡ lexeme (drop i s) → l ≡ Separator → scan (drop i s) 0 i c ≡ scan (drop (i + 1) s) 0 (i + 1) c
   step_separator l e q = scan_step Separator (sym q ∙ e)
 
-  pub step_broken : (l : Lexeme) (n : ℕ) → l ≡ lexeme (drop i s) → l ≡ Broken n → scan (drop i s) 0 i c ≡ refused n i
-  step_broken l n e q = scan_step (Broken n) (sym q ∙ e)
+  pub step_broken : (l : Lexeme) (r : Reason) → l ≡ lexeme (drop i s) → l ≡ Broken r → scan (drop i s) 0 i c ≡ refused (refusal.number r) i
+  step_broken l r e q = scan_step (Broken r) (sym q ∙ e)
 
   module _ (l : Lexeme) (k n v : ℕ) (e : l ≡ lexeme (drop i s)) (q : l ≡ Token k n v) where
     pub step_full : 1024 ≤ c → scan (drop i s) 0 i c ≡ refused refusal.many_tokens i

@@ -1,13 +1,12 @@
 -- The token list of a source, or the refusal among 1 to 5. Definitions.
 -- Rests on Lexemes.
-use Rattle.std.specs.Prelude.{List, [], ◌∷◌, ℕ, zero, suc, ◌+◌, ◌-◌, ◌≤◌, leb, length, get_or}
+use Rattle.std.specs.Prelude.{List, [], ◌∷◌, ℕ, zero, suc, ◌+◌, ◌-◌, ◌≤◌, leb, length, get_or, Result, Ok, Err}
 use Rattle.arm_word.specs.Choice.{pick}
 use Rattle.x_tokens.specs.Refusals as refusal
 use Rattle.x_tokens.specs.Lexemes.{lexeme}
 use Rattle.x_tokens.specs.declared.Lexeme.{Lexeme}
 use Rattle.x_tokens.specs.declared.Lexeme.TheVariants.{Separator, Token, Broken}
-use Rattle.x_tokens.specs.declared.Scanned.{Scanned}
-use Rattle.x_tokens.specs.declared.Scanned.TheVariants.{Read, Refused}
+use Rattle.x_tokens.specs.declared.refusal.Refusal.{Refusal}
 
 -- a token: its kind by number, the place of its first byte, and a number's word, a name's length in bytes, else 0
 pub record Entry : Type 0 where
@@ -29,7 +28,7 @@ also t (refused n p) = refused n p
 -- Refusal 5: "more than 1,024 tokens, comments counted", at "first byte of token 1,025"
 abbrev pub taken : Lexeme → ℕ → ℕ → (ℕ → ℕ → Outcome) → Outcome
 taken Separator p count rest = rest 0 count
-taken (Broken n) p count rest = refused n p
+taken (Broken r) p count rest = refused (refusal.number r) p
 taken (Token k n v) p count rest =
     pick (leb 1024 count) (refused refusal.many_tokens p)
     (also (record { kind = k; place = p; value = v }) (rest (n - 1) (count + 1)))
@@ -50,11 +49,11 @@ entries ks ps vs i zero = []
 entries ks ps vs i (suc n) = record { kind = get_or ks i 0; place = get_or ps i 0; value = get_or vs i 0 } ∷ entries ks ps vs (suc i) n
 
 -- what the answer of `tokens` says with its arrays
-abbrev pub answer : Scanned → List ℕ → List ℕ → List ℕ → Outcome
-answer (Read n) ks ps vs = read (entries ks ps vs 0 n)
-answer (Refused n p) ks ps vs = refused n p
+abbrev pub answer : Result ℕ Refusal → List ℕ → List ℕ → List ℕ → Outcome
+answer (Ok n) ks ps vs = read (entries ks ps vs 0 n)
+answer (Err r) ks ps vs = refused (refusal.number r.reason) r.place
 
 -- how many tokens an answer can give
-abbrev pub Few : Scanned → Type 0
-Few (Read n) = n ≤ 1024
-Few (Refused n p) = Unit {0}
+abbrev pub Few : Result ℕ Refusal → Type 0
+Few (Ok n) = n ≤ 1024
+Few (Err r) = Unit {0}

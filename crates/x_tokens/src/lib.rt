@@ -5,27 +5,23 @@ pub mod refusal;
 
 ghost use Rattle.std.specs.Prelude.{◌≡◌, ◌<◌, ◌≤◌, length, drop};
 ghost use Rattle.x_tokens.specs.Lexemes as lexemes;
+ghost use Rattle.x_tokens.specs.Lexemes.{unless_zero};
 ghost use Rattle.x_tokens.specs.TokenList.{outcome, answer, Few};
 
+use crate::refusal::{Reason, Refusal};
 use x_spelling::{
     Class, byte, digit_value, kind, letter, literal_character, numeral, one_of, span, word_of,
 };
 
-// What stands at the front: a separator, a token (kind, length, value), or a refusal's number.
+// What stands at the front: a separator, a token (kind, length, value), or why there is none.
 #[derive(Clone, Copy)]
 pub enum Lexeme {
     Separator,
     Token(u8, usize, u32),
-    Broken(u32),
+    Broken(Reason),
 }
 
-// The answer: how many tokens, or the refusal's number and place.
-#[derive(Clone, Copy)]
-pub enum Scanned {
-    Read(usize),
-    Refused(u32, usize),
-}
-
+#[tactic(auto, unfolding(crate::specs::Lexemes::named))]
 fn named(s: &[u8], i: usize) -> Lexeme
     requires { i ≤ length s.now }
     ensures { result ≡ lexemes.named (drop i s.now) }
@@ -36,41 +32,44 @@ fn named(s: &[u8], i: usize) -> Lexeme
         let found = word_of(&s[i..end]);
         Lexeme::Token(found.kind, n, found.value)
     } else {
-        Lexeme::Broken(refusal::LONG_NAME)
+        Lexeme::Broken(Reason::LongName)
     }
 }
 
 // A number whose digits stand from i on, after `before` bytes of its own.
+#[tactic(auto, unfolding(crate::specs::Lexemes::number))]
 fn number(s: &[u8], base: u64, limit: u32, before: usize, i: usize) -> Lexeme
     requires { (1 ≤ base) × ((base ≤ 16) × (before ≤ 1)) }
     ensures { result ≡ lexemes.number base limit before (drop i s.now) }
 {
     let n = span(s, Class::Digit(base), i);
     if n == 0 {
-        return Lexeme::Broken(refusal::BROKEN_TOKEN);
+        return Lexeme::Broken(Reason::BrokenToken);
     }
     let value = numeral(s, base, i);
     if value <= limit as u64 {
         return Lexeme::Token(kind::NUMBER, before + n, value as u32);
     }
-    Lexeme::Broken(refusal::LARGE_NUMBER)
+    Lexeme::Broken(Reason::LargeNumber)
 }
 
-fn escape_value(b: u8) -> u8
-    ensures { result ≡ lexemes.escape_value b }
+#[tactic(auto, unfolding(crate::specs::Lexemes::escape_value))]
+fn escape_value(b: u8) -> Option<u8>
+    ensures { result ≡ unless_zero (lexemes.escape_value b) }
 {
     match b {
-        b'c' => 13,
-        b'n' => 10,
-        b't' => 9,
-        b's' => 32,
-        b'\'' => 39,
-        b'"' => 34,
-        b'*' => 42,
-        _ => 0,
+        b'c' => Some(13),
+        b'n' => Some(10),
+        b't' => Some(9),
+        b's' => Some(32),
+        b'\'' => Some(39),
+        b'"' => Some(34),
+        b'*' => Some(42),
+        _ => None,
     }
 }
 
+#[tactic(auto, unfolding(crate::specs::Lexemes::closed))]
 fn closed(s: &[u8], i: usize, n: usize, value: u32) -> Lexeme
     requires { n ≤ 5 }
     ensures { result ≡ lexemes.closed (drop i s.now) n value }
@@ -78,9 +77,10 @@ fn closed(s: &[u8], i: usize, n: usize, value: u32) -> Lexeme
     if byte(s, i, n) == b'\'' {
         return Lexeme::Token(kind::NUMBER, n + 1, value);
     }
-    Lexeme::Broken(refusal::BROKEN_TOKEN)
+    Lexeme::Broken(Reason::BrokenToken)
 }
 
+#[tactic(auto, unfolding(crate::specs::Lexemes::hexadecimal_escape))]
 fn hexadecimal_escape(s: &[u8], i: usize) -> Lexeme
     ensures { result ≡ lexemes.hexadecimal_escape (drop i s.now) }
 {
@@ -90,11 +90,12 @@ fn hexadecimal_escape(s: &[u8], i: usize) -> Lexeme
         if low < 16 {
             return closed(s, i, 5, high * 16 + low);
         }
-        return Lexeme::Broken(refusal::BROKEN_TOKEN);
+        return Lexeme::Broken(Reason::BrokenToken);
     }
-    Lexeme::Broken(refusal::BROKEN_TOKEN)
+    Lexeme::Broken(Reason::BrokenToken)
 }
 
+#[tactic(auto, unfolding(crate::specs::Lexemes::escape))]
 fn escape(s: &[u8], i: usize) -> Lexeme
     ensures { result ≡ lexemes.escape (drop i s.now) }
 {
@@ -102,13 +103,13 @@ fn escape(s: &[u8], i: usize) -> Lexeme
     if b == b'#' {
         return hexadecimal_escape(s, i);
     }
-    let value = escape_value(b);
-    if value == 0 {
-        return Lexeme::Broken(refusal::BROKEN_TOKEN);
+    match escape_value(b) {
+        Some(value) => closed(s, i, 3, value as u32),
+        None => Lexeme::Broken(Reason::BrokenToken),
     }
-    closed(s, i, 3, value as u32)
 }
 
+#[tactic(auto, unfolding(crate::specs::Lexemes::byte_literal))]
 fn byte_literal(s: &[u8], i: usize) -> Lexeme
     ensures { result ≡ lexemes.byte_literal (drop i s.now) }
 {
@@ -119,9 +120,10 @@ fn byte_literal(s: &[u8], i: usize) -> Lexeme
     if literal_character(b) {
         return closed(s, i, 2, b as u32);
     }
-    Lexeme::Broken(refusal::BROKEN_TOKEN)
+    Lexeme::Broken(Reason::BrokenToken)
 }
 
+#[tactic(auto, unfolding(crate::specs::Lexemes::comment))]
 fn comment(s: &[u8], i: usize) -> Lexeme
     requires { length s.now ≤ 16384 }
     ensures { result ≡ lexemes.comment (drop i s.now) }
@@ -130,70 +132,62 @@ fn comment(s: &[u8], i: usize) -> Lexeme
     if byte(s, i, n) == b'|' {
         return Lexeme::Token(kind::COMMENT, n + 2, 0);
     }
-    Lexeme::Broken(refusal::BROKEN_TOKEN)
+    Lexeme::Broken(Reason::BrokenToken)
 }
 
-fn double(b: u8, c: u8) -> u8
-    ensures { result ≡ lexemes.double b c }
+#[tactic(auto, unfolding(crate::specs::Lexemes::double))]
+fn double(b: u8, c: u8) -> Option<u8>
+    ensures { result ≡ unless_zero (lexemes.double b c) }
 {
-    if b == b':' {
-        return if c == b'=' { kind::BECOMES } else { 0 };
+    match (b, c) {
+        (b':', b'=') => Some(kind::BECOMES),
+        (b'<', b'>') => Some(kind::UNEQUAL),
+        (b'<', b'=') => Some(kind::AT_MOST),
+        (b'<', b'<') => Some(kind::SHIFT_LEFT),
+        (b'>', b'=') => Some(kind::AT_LEAST),
+        (b'>', b'>') => Some(kind::SHIFT_RIGHT),
+        _ => None,
     }
-    if b == b'<' {
-        return match c {
-            b'>' => kind::UNEQUAL,
-            b'=' => kind::AT_MOST,
-            b'<' => kind::SHIFT_LEFT,
-            _ => 0,
-        };
-    }
-    if b == b'>' {
-        return match c {
-            b'=' => kind::AT_LEAST,
-            b'>' => kind::SHIFT_RIGHT,
-            _ => 0,
-        };
-    }
-    0
 }
 
-fn single(b: u8) -> u8
-    ensures { result ≡ lexemes.single b }
+#[tactic(auto, unfolding(crate::specs::Lexemes::single))]
+fn single(b: u8) -> Option<u8>
+    ensures { result ≡ unless_zero (lexemes.single b) }
 {
     match b {
-        b'+' => kind::PLUS,
-        b'-' => kind::MINUS,
-        b'*' => kind::TIMES,
-        b'=' => kind::EQUAL,
-        b'<' => kind::LESS,
-        b'>' => kind::GREATER,
-        b'(' => kind::OPEN_BRACKET,
-        b')' => kind::CLOSE_BRACKET,
-        b'[' => kind::OPEN_SUBSCRIPT,
-        b']' => kind::CLOSE_SUBSCRIPT,
-        b'{' => kind::OPEN_BRACE,
-        b'}' => kind::CLOSE_BRACE,
-        b';' => kind::SEMICOLON,
-        b',' => kind::COMMA,
-        _ => 0,
+        b'+' => Some(kind::PLUS),
+        b'-' => Some(kind::MINUS),
+        b'*' => Some(kind::TIMES),
+        b'=' => Some(kind::EQUAL),
+        b'<' => Some(kind::LESS),
+        b'>' => Some(kind::GREATER),
+        b'(' => Some(kind::OPEN_BRACKET),
+        b')' => Some(kind::CLOSE_BRACKET),
+        b'[' => Some(kind::OPEN_SUBSCRIPT),
+        b']' => Some(kind::CLOSE_SUBSCRIPT),
+        b'{' => Some(kind::OPEN_BRACE),
+        b'}' => Some(kind::CLOSE_BRACE),
+        b';' => Some(kind::SEMICOLON),
+        b',' => Some(kind::COMMA),
+        _ => None,
     }
 }
 
+#[tactic(auto, unfolding(crate::specs::Lexemes::symbol))]
 fn symbol(b: u8, c: u8) -> Lexeme
     ensures { result ≡ lexemes.symbol b c }
 {
-    let two = double(b, c);
-    if two == 0 {
-        let one = single(b);
-        if one == 0 {
-            return Lexeme::Broken(refusal::BROKEN_TOKEN);
-        }
-        return Lexeme::Token(one, 1, 0);
+    if let Some(kind) = double(b, c) {
+        return Lexeme::Token(kind, 2, 0);
     }
-    Lexeme::Token(two, 2, 0)
+    match single(b) {
+        Some(kind) => Lexeme::Token(kind, 1, 0),
+        None => Lexeme::Broken(Reason::BrokenToken),
+    }
 }
 
 // What stands at i.
+#[tactic(auto, unfolding(crate::specs::Lexemes::lexeme))]
 fn lexeme_at(s: &[u8], i: usize) -> Lexeme
     requires { (i < length s.now) × (length s.now ≤ 16384) }
     ensures { result ≡ lexemes.lexeme (drop i s.now) }
@@ -220,26 +214,38 @@ fn lexeme_at(s: &[u8], i: usize) -> Lexeme
     symbol(b, byte(s, i, 1))
 }
 
-// The tokens of a source that is not too long, into arrays of 1,024 entries.
-fn scan(source: &[u8], kinds: &mut [u8], places: &mut [u32], values: &mut [u32]) -> Scanned
-    requires { (length source.now ≤ 16384) × ((length kinds.old ≡ 1024) × ((length places.old ≡ 1024) × (length values.old ≡ 1024))) }
+// The tokens of a source that is not too long.
+fn scan(
+    source: &[u8],
+    kinds: &mut [u8; 1024],
+    places: &mut [u32; 1024],
+    values: &mut [u32; 1024],
+) -> Result<usize, Refusal>
+    requires { length source.now ≤ 16384 }
     ensures source_value { outcome source.now ≡ answer result kinds.new places.new values.new }
     ensures few { Few result }
 {
     let mut i: usize = 0;
     let mut n: usize = 0;
+    // a `while`, since a token takes more than one byte
     while i < source.len() {
         let found = lexeme_at(source, i);
         match found {
             Lexeme::Separator => {
                 i += 1;
             }
-            Lexeme::Broken(number) => {
-                return Scanned::Refused(number, i);
+            Lexeme::Broken(reason) => {
+                return Err(Refusal {
+                    reason,
+                    place: i as u32,
+                });
             }
             Lexeme::Token(kind, length, value) => {
                 if 1024 <= n {
-                    return Scanned::Refused(refusal::MANY_TOKENS, i);
+                    return Err(Refusal {
+                        reason: Reason::ManyTokens,
+                        place: i as u32,
+                    });
                 }
                 kinds[n] = kind;
                 places[n] = i as u32;
@@ -249,7 +255,7 @@ fn scan(source: &[u8], kinds: &mut [u8], places: &mut [u32], values: &mut [u32])
             }
         }
     }
-    Scanned::Read(n)
+    Ok(n)
 }
 
 // The tokens of a source: their kinds, places and values into the arrays, and how many there are; or the refusal.
@@ -259,12 +265,15 @@ pub fn tokens(
     kinds: &mut [u8; 1024],
     places: &mut [u32; 1024],
     values: &mut [u32; 1024],
-) -> Scanned
+) -> Result<usize, Refusal>
     ensures source_value { outcome source.now ≡ answer result kinds.new places.new values.new }
     ensures few { Few result }
 {
     if 16384 < source.len() {
-        return Scanned::Refused(refusal::LONG_SOURCE, 0);
+        return Err(Refusal {
+            reason: Reason::LongSource,
+            place: 0,
+        });
     }
     scan(source, kinds, places, values)
 }

@@ -1,28 +1,38 @@
-// The refusals of a translation, by number: see specs/Refusals.antt.
-pub const LONG_SOURCE: u32 = 1;
+// The refusals of a translation, with the numbers of specs/Refusals.antt.
+ghost use Rattle.std.specs.Prelude.{◌≡◌};
+ghost use Rattle.x_tokens.specs.Refusals.{number};
 
-pub const BROKEN_TOKEN: u32 = 2;
+// Why a source is refused.
+#[derive(Clone, Copy, PartialEq, Eq)]
+pub enum Reason {
+    LongSource = 1,
+    BrokenToken,
+    LargeNumber,
+    LongName,
+    ManyTokens,
+    Ungrammatical,
+    DeepProgram,
+    NotDeclared,
+    DeclaredTwice,
+    WrongKind,
+    BadLength,
+    TooMuch,
+    ShortTable,
+    ShortCode,
+}
 
-pub const LARGE_NUMBER: u32 = 3;
+// The number that document 01 gives it.
+impl From<Reason> for u32 {
+    ghost from_gives = { λ reason n. n ≡ number reason };
 
-pub const LONG_NAME: u32 = 4;
+    fn from(reason: Reason) -> u32 {
+        reason as u32
+    }
+}
 
-pub const MANY_TOKENS: u32 = 5;
-
-pub const UNGRAMMATICAL: u32 = 6;
-
-pub const DEEP_PROGRAM: u32 = 7;
-
-pub const NOT_DECLARED: u32 = 8;
-
-pub const DECLARED_TWICE: u32 = 9;
-
-pub const WRONG_KIND: u32 = 10;
-
-pub const BAD_LENGTH: u32 = 11;
-
-pub const TOO_MUCH: u32 = 12;
-
-pub const SHORT_TABLE: u32 = 13;
-
-pub const SHORT_CODE: u32 = 14;
+// A refused source's reason, and the place in the source that it is about.
+#[derive(Clone, Copy, PartialEq, Eq)]
+pub struct Refusal {
+    pub reason: Reason,
+    pub place: u32,
+}

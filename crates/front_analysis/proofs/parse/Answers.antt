@@ -12,13 +12,13 @@ pub returns-in-Bad : goal.returns-in-Bad
 returns-in-Bad c =
     let recognize = c.recognize in let a = c.args in
     let q = c.requires in
-    λ o. recognized_bad a.source.now a.kinds.now a.places.now a.values.now q.1.1.0 q.1.1.1.0 c.in-Bad.i _
-    (subst (λ (r : Recognized). Says (length a.kinds.now) (reads (unread a.kinds.now a.values.now 0)) r) c.in-Bad.is
-    (recognize.ensures.0 a.values.now)) c.place_of.ensures
+    λ o. recognized_bad a.source.now a.tokens.kinds.now a.tokens.places.now a.tokens.values.now q.1.1.0 q.1.1.1 c.in-Bad.i _
+    (subst (λ (r : Recognized). Says (length a.tokens.kinds.now) (reads (unread a.tokens.kinds.now a.tokens.values.now 0)) r) c.in-Bad.is
+    (recognize.ensures.0 a.tokens.values.now)) c.place_of.ensures
 
 pub returns-in-Deep : goal.returns-in-Deep
 returns-in-Deep c =
     let a = c.args in let q = c.requires in
-    let s = subst (λ (r : Recognized). Says (length a.kinds.now) (reads (unread a.kinds.now a.values.now 0)) r) c.in-Deep.is
-    (c.recognize.ensures.0 a.values.now) in
-    λ o. deep_program a.source.now a.kinds.now a.places.now a.values.now q.1.1.0 q.1.1.1.0 s.0 s.1 s.2
+    let s = subst (λ (r : Recognized). Says (length a.tokens.kinds.now) (reads (unread a.tokens.kinds.now a.tokens.values.now 0)) r) c.in-Deep.is
+    (c.recognize.ensures.0 a.tokens.values.now) in
+    λ o. rw c.whole.ensures (deep_program a.source.now a.tokens.kinds.now a.tokens.places.now a.tokens.values.now q.1.1.0 q.1.1.1 s.0 s.1 s.2)

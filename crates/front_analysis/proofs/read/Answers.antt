@@ -6,41 +6,33 @@ use Rattle.front_analysis.specs.Analysed.{Analysed}
 use Rattle.front_analysis.specs.Parsed.{came, too_deep, small, as_names, ready}
 use Rattle.front_analysis.proofs.read.Goals as goal
 
-pub returns-then-depth-gt-DEPTH_LIMIT : goal.returns-then-depth-gt-DEPTH_LIMIT
-returns-then-depth-gt-DEPTH_LIMIT c =
+pub returns-then-max-gt-DEPTH_LIMIT : goal.returns-then-max-gt-DEPTH_LIMIT
+returns-then-max-gt-DEPTH_LIMIT c =
     let a = c.args in
-    let k = came a.source.now a.kinds.now a.places.now a.values.now c.requires.1.1.0 c.requires.1.1.1.0 c.in-Program.start
+    let k = came a.source.now a.tokens.kinds.now a.tokens.places.now a.tokens.values.now c.requires.1.1.0 c.requires.1.1.1.0 c.in-Program.start
     c.in-Program.rows c.in-Program.depth c.in-Program.deepest a.table.now c.program-a.new.table
     (sym c.program-a.ensures.0 ∙ c.in-Program.is) c.program-a.ensures.1 in
-    λ o. too_deep a.source.now a.kinds.now a.places.now a.values.now c.requires.1.1.0 c.requires.1.1.1.0 c.in-Program.start
+    λ o. rw c.whole.ensures (too_deep a.source.now a.tokens.kinds.now a.tokens.places.now a.tokens.values.now c.requires.1.1.0 c.requires.1.1.1.0 c.in-Program.start
     c.in-Program.rows c.in-Program.depth c.in-Program.deepest a.table.now c.program-a.new.table k
-    (omega (arith, c.if-depth-gt-DEPTH_LIMIT.true))
-
-pub returns-then-deepest-gt-DEPTH_LIMIT : goal.returns-then-deepest-gt-DEPTH_LIMIT
-returns-then-deepest-gt-DEPTH_LIMIT c =
-    let a = c.args in
-    let k = came a.source.now a.kinds.now a.places.now a.values.now c.requires.1.1.0 c.requires.1.1.1.0 c.in-Program.start c.in-Program.rows
-    c.in-Program.depth c.in-Program.deepest a.table.now c.program-a.new.table (sym c.program-a.ensures.0 ∙ c.in-Program.is) c.program-a.ensures.1 in
-    λ o. too_deep a.source.now a.kinds.now a.places.now a.values.now c.requires.1.1.0 c.requires.1.1.1.0 c.in-Program.start c.in-Program.rows
-    c.in-Program.depth c.in-Program.deepest a.table.now c.program-a.new.table k (omega (arith, c.if-deepest-gt-DEPTH_LIMIT.true))
+    (omega (arith, c.max.ensures, c.if-max-gt-DEPTH_LIMIT.true)))
 
 pub names-requires : goal.names-requires
 names-requires c =
     let a = c.args in
-    let k = came a.source.now a.kinds.now a.places.now a.values.now c.requires.1.1.0 c.requires.1.1.1.0 c.in-Program.start c.in-Program.rows
+    let k = came a.source.now a.tokens.kinds.now a.tokens.places.now a.tokens.values.now c.requires.1.1.0 c.requires.1.1.1.0 c.in-Program.start c.in-Program.rows
     c.in-Program.depth c.in-Program.deepest a.table.now c.program-a.new.table (sym c.program-a.ensures.0 ∙ c.in-Program.is) c.program-a.ensures.1 in
-    small a.source.now a.kinds.now a.places.now a.values.now c.requires.1.1.0 c.requires.1.1.1.0 c.in-Program.start c.in-Program.rows
+    small a.source.now a.tokens.kinds.now a.tokens.places.now a.tokens.values.now c.requires.1.1.0 c.requires.1.1.1.0 c.in-Program.start c.in-Program.rows
     c.in-Program.depth c.in-Program.deepest a.table.now c.program-a.new.table k c.requires.1.0
 
-pub returns-else-deepest-gt-DEPTH_LIMIT : goal.returns-else-deepest-gt-DEPTH_LIMIT
-returns-else-deepest-gt-DEPTH_LIMIT c =
+pub returns-else-max-gt-DEPTH_LIMIT : goal.returns-else-max-gt-DEPTH_LIMIT
+returns-else-max-gt-DEPTH_LIMIT c =
     let a = c.args in
-    let k = came a.source.now a.kinds.now a.places.now a.values.now c.requires.1.1.0 c.requires.1.1.1.0 c.in-Program.start c.in-Program.rows
+    let k = came a.source.now a.tokens.kinds.now a.tokens.places.now a.tokens.values.now c.requires.1.1.0 c.requires.1.1.1.0 c.in-Program.start c.in-Program.rows
     c.in-Program.depth c.in-Program.deepest a.table.now c.program-a.new.table (sym c.program-a.ensures.0 ∙ c.in-Program.is) c.program-a.ensures.1 in
     λ o. subst (λ (x : Outcome). Analysed x c.names.new.table c.names.result)
-    (sym (as_names a.source.now a.kinds.now a.places.now a.values.now c.requires.1.1.0 c.requires.1.1.1.0 c.in-Program.start c.in-Program.rows
+    (sym (as_names a.source.now a.tokens.kinds.now a.tokens.places.now a.tokens.values.now c.requires.1.1.0 c.requires.1.1.1.0 c.in-Program.start c.in-Program.rows
     c.in-Program.depth c.in-Program.deepest a.table.now c.program-a.new.table k
-    (omega (arith, c.if-depth-gt-DEPTH_LIMIT.false, c.if-deepest-gt-DEPTH_LIMIT.false))))
+    (omega (arith, c.max.ensures, c.if-max-gt-DEPTH_LIMIT.false))))
     (c.names.ensures k.tree
-    (ready a.source.now a.kinds.now a.places.now a.values.now c.requires.1.1.0 c.requires.1.1.1.0 c.in-Program.start c.in-Program.rows
-    c.in-Program.depth c.in-Program.deepest a.table.now c.program-a.new.table k o c.requires.1.1.1.1.0 c.requires.1.0))
+    (ready a.source.now a.tokens.kinds.now a.tokens.places.now a.tokens.values.now c.requires.1.1.0 c.requires.1.1.1.0 c.in-Program.start c.in-Program.rows
+    c.in-Program.depth c.in-Program.deepest a.table.now c.program-a.new.table k o (omega arith) c.requires.1.0))

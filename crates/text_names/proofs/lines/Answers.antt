@@ -2,23 +2,24 @@
 -- Assumes nothing.
 use mathlib.Core.Path.{◌≡◌, ap, ◌∙◌}
 use Rattle.x_tokens.specs.TokenList.{answer}
-use Rattle.x_tokens.specs.declared.Scanned.{Scanned}
+use Rattle.std.specs.Prelude.{ℕ, Result}
+use Rattle.x_tokens.specs.declared.refusal.Refusal.{Refusal}
 use lib.ListN.{length}
 use borrow.Author.Rules.{rules}
 use Rattle.text_names.specs.Tokens.{TokensOf, not_refused, first_tokens}
 use Rattle.text_names.proofs.lines.Goals as goal
 
-pub returns-in-Refused : goal.returns-in-Refused
-returns-in-Refused c =
+pub returns-in-Err : goal.returns-in-Err
+returns-in-Err c =
     let t = c.tokens-s in
-    let is = c.in-Refused.is in
-    absurd (not_refused c.args.source.now _ _ c.requires (t.ensures.source_value ∙ ap (λ (r : Scanned). answer r t.new.kinds t.new.places t.new.values) is))
+    let is = c.in-Err.is in
+    absurd (not_refused c.args.source.now _ _ c.requires (t.ensures.source_value ∙ ap (λ (r : Result ℕ Refusal). answer r t.new.kinds t.new.places t.new.values) is))
 
 pub put_first-requires : goal.put_first-requires
 put_first-requires c =
     let t = c.tokens-s.new in
-    let tokens : TokensOf c.args.source.now t.kinds t.places t.values c.in-Read.n = search rules in
+    let tokens : TokensOf c.args.source.now t.kinds t.places t.values c.in-Ok.n = search rules in
     let k : length t.kinds ≡ 1024 = search rules in
     let p : length t.places ≡ 1024 = search rules in
     let v : length t.values ≡ 1024 = search rules in
-    first_tokens c.args.source.now t.kinds t.places t.values c.in-Read.n k p v tokens
+    first_tokens c.args.source.now t.kinds t.places t.values c.in-Ok.n k p v tokens

@@ -15,10 +15,10 @@ use Rattle.translate_source.proofs.accept.Goals as goal
 pub fill_code-end-requires : goal.fill_code-end-requires
 fill_code-end-requires c =
     let a = c.args in
-    let q = c.requires.1.0 in let p = c.requires.1.1 in let e = sym p.rows_are in (
+    let q = c.requires.0 in let p = c.requires.1 in let e = sym p.rows_are in (
       subst (λ (k : ℕ). 0 < k) e (some_row q),
       (
-        subst (λ (k : ℕ). WellProcess a.rows.now (k - 1)) e (well_table q a.rows.now p.sound p.holds (omega (arith, c.requires.0, p.fits.rows, p.fits.few))),
+        subst (λ (k : ℕ). WellProcess a.rows.now (k - 1)) e (well_table q a.rows.now p.sound p.holds (omega (arith, p.fits.rows, p.fits.few))),
         subst (λ (k : ℕ). Room a.code.now 0 (image_code (process_at a.rows.now (k - 1)))) e
             (image_room q a.rows.now p.sound p.holds p.fits.in_code (omega (arith, p.fits.small))),
       ),
@@ -29,5 +29,5 @@ returns c =
     let fill-table = c.fill_table in
     let a = c.args in
     λ q p. let f = c.fill_code-end.ensures q p.sound p.holds p.rows_are p.fits.in_code in
-    accepted_left a.table.now a.code.now a.tokens a.count a.words a.depth _ q _ _ p.rows_are p.words_are p.depth_is f.1
+    accepted_left a.table.now a.code.now a.accepted.tokens a.accepted.rows a.accepted.words a.accepted.depth _ q _ _ p.rows_are p.words_are p.depth_is f.1
     (fill-table.ensures (table_of q) (length_table q ∙ omega (arith, p.rows_are)) p.holds) f.0

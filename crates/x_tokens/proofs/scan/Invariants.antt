@@ -9,7 +9,7 @@ use Rattle.x_tokens.specs.TokenLaws.{before}
 use Rattle.x_tokens.proofs.scan.Given as goal
 
 abbrev pub invariant-loop-i : goal.invariant-loop-i
-invariant-loop-i l = (l.i ≤ length l.source) × (l.n ≤ 1024) × (length l.kinds ≡ 1024) × (length l.places ≡ 1024) × (length l.values ≡ 1024)
+invariant-loop-i l = (l.i ≤ length l.source) × (l.n ≤ 1024)
     × (outcome l.source ≡ before (entries l.kinds l.places l.values 0 l.n) (tokens.scan (drop l.i l.source) 0 l.i l.n))
 
 abbrev pub decreases-loop-i : goal.decreases-loop-i
