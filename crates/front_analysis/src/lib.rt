@@ -15,8 +15,8 @@ ghost use Rattle.front_analysis.specs.Named.{Ready, named_as};
 use front_names_bind::{Progress, bind};
 use front_names_resolve::resolve;
 use front_names_table::number;
-use front_read_program::{Answer, program};
-use front_recognizer::{Recognized, recognize};
+use front_read_program::program;
+use front_recognizer::{Fault, recognize};
 use x_program::row;
 use x_tokens::{Scanned, refusal, tokens};
 
@@ -119,22 +119,21 @@ fn read(
         × ((length values.now ≡ length kinds.now) × ((length table.old ≡ 4096) × Bounded (reads (unread kinds.now values.now 0)))))) }
     ensures { Parses source.now (scanned.entries kinds.now places.now values.now 0 (length kinds.now)) table.new result }
 {
-    let a = program(kinds, values, table);
-    match a {
-        Answer::Refused(i) => {
-            Analysis::Refused(
-                refusal::UNGRAMMATICAL,
-                place_of(places, i, source.len() as u32),
+    match program(kinds, values, table) {
+        Err(x) => Analysis::Refused(
+            refusal::UNGRAMMATICAL,
+            place_of(places, x.token, source.len() as u32),
+        ),
+        Ok(p) => {
+            if DEPTH_LIMIT < p.depth {
+                return Analysis::Refused(refusal::DEEP_PROGRAM, 0);
+            }
+            if DEPTH_LIMIT < p.deepest {
+                return Analysis::Refused(refusal::DEEP_PROGRAM, 0);
+            }
+            names(
+                source, kinds, places, values, table, p.start, p.rows, p.deepest,
             )
-        }
-        Answer::Program(start, rows, depth, deepest) => {
-            if DEPTH_LIMIT < depth {
-                return Analysis::Refused(refusal::DEEP_PROGRAM, 0);
-            }
-            if DEPTH_LIMIT < deepest {
-                return Analysis::Refused(refusal::DEEP_PROGRAM, 0);
-            }
-            names(source, kinds, places, values, table, start, rows, deepest)
         }
     }
 }
@@ -152,12 +151,12 @@ fn parse(
     ensures { Parses source.now (scanned.entries kinds.now places.now values.now 0 (length kinds.now)) table.new result }
 {
     match recognize(kinds, table) {
-        Recognized::Bad(i) => Analysis::Refused(
+        Err(Fault::Ungrammatical(x)) => Analysis::Refused(
             refusal::UNGRAMMATICAL,
-            place_of(places, i, source.len() as u32),
+            place_of(places, x.token, source.len() as u32),
         ),
-        Recognized::Deep => Analysis::Refused(refusal::DEEP_PROGRAM, 0),
-        Recognized::Program => read(source, kinds, places, values, table),
+        Err(Fault::Deep) => Analysis::Refused(refusal::DEEP_PROGRAM, 0),
+        Ok(()) => read(source, kinds, places, values, table),
     }
 }
 

@@ -9,9 +9,9 @@ ghost use Rattle.x_grammar.specs.Automaton.{reads};
 ghost use Rattle.x_grammar.specs.TokenArrays.{unread};
 ghost use Rattle.front_recognizer.specs.Pushdown as rules;
 ghost use Rattle.front_recognizer.specs.Stack.{viewed};
-ghost use Rattle.front_recognizer.specs.Recognized.{Says, ended};
+ghost use Rattle.front_recognizer.specs.Recognized.{Says, refused_at, ended};
 
-use front_read_expressions::{is_diadic, is_monadic, put};
+use front_read_expressions::{Ungrammatical, is_diadic, is_monadic, put};
 use x_program::row;
 use x_spelling::kind;
 
@@ -58,12 +58,11 @@ pub struct Control {
     pub height: usize,
 }
 
-// A program; a program that is too deep; or the token that no program continues with.
+// What the tokens are instead of a program that nests within the limit: a program that is too deep, or none.
 #[derive(Clone, Copy)]
-pub enum Recognized {
-    Program,
+pub enum Fault {
     Deep,
-    Bad(usize),
+    Ungrammatical(Ungrammatical),
 }
 
 // One level more, up to the limit.
@@ -550,22 +549,29 @@ fn complete(mode: u8, height: usize) -> bool
     false
 }
 
+// Refused at token i.
+fn refused_at(i: usize) -> Result<(), Fault>
+    ensures { result ≡ refused_at i }
+{
+    Err(Fault::Ungrammatical(Ungrammatical { token: i }))
+}
+
 // The answer where no token is left, of n.
-fn at_end(complete: bool, deep: bool, n: usize) -> Recognized
+fn at_end(complete: bool, deep: bool, n: usize) -> Result<(), Fault>
     ensures { result ≡ ended complete deep n }
 {
-    if complete {
-        if deep {
-            return Recognized::Deep;
-        }
-        return Recognized::Program;
+    if !complete {
+        return refused_at(n);
     }
-    Recognized::Bad(n)
+    if deep {
+        return Err(Fault::Deep);
+    }
+    Ok(())
 }
 
 // Whether the tokens are a program, and where not; the table is the stack.
 // Open: what it leaves in the table.
-pub fn recognize(kinds: &[u8], table: &mut [u32; 4096]) -> Recognized
+pub fn recognize(kinds: &[u8], table: &mut [u32; 4096]) -> Result<(), Fault>
     requires { (length kinds.now ≤ 1024) × (length table.old ≡ 4096) }
     ensures { ((values : List ℕ) → Says (length kinds.now) (reads (unread kinds.now values 0)) result) × (length table.new ≡ 4096) }
 {
@@ -576,14 +582,12 @@ pub fn recognize(kinds: &[u8], table: &mut [u32; 4096]) -> Recognized
         height: 0,
     };
     let mut deep = false;
-    let mut i = 0;
-    while i < kinds.len() {
-        c = advance(table, c, kinds[i]);
+    for (i, k) in kinds.iter().enumerate() {
+        c = advance(table, c, *k);
         if c.mode == mode::REFUSED {
-            return Recognized::Bad(i);
+            return refused_at(i);
         }
         deep = deep_by(deep, c.level);
-        i += 1;
     }
-    at_end(complete(c.mode, c.height), deep, i)
+    at_end(complete(c.mode, c.height), deep, kinds.len())
 }

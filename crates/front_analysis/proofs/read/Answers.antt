@@ -1,46 +1,46 @@
 -- `front_analysis::read` meets its contract, by the laws of specs/. Assumes nothing.
 use native.Mathlib.Omega.{arith}
-use mathlib.Core.Path.{sym, subst, ◌∙◌}
+use mathlib.Core.Path.{sym, subst}
 use Rattle.x_verdict.specs.Front.{Outcome}
 use Rattle.front_analysis.specs.Analysed.{Analysed}
 use Rattle.front_analysis.specs.Parsed.{came, too_deep, small, as_names, ready}
 use Rattle.front_analysis.proofs.read.Goals as goal
 
-pub returns-then-depth-gt-DEPTH_LIMIT : goal.returns-then-depth-gt-DEPTH_LIMIT
-returns-then-depth-gt-DEPTH_LIMIT c =
+pub returns-then-p-gt-DEPTH_LIMIT : goal.returns-then-p-gt-DEPTH_LIMIT
+returns-then-p-gt-DEPTH_LIMIT c =
     let a = c.args in
-    let k = came a.source.now a.kinds.now a.places.now a.values.now c.requires.1.1.0 c.requires.1.1.1.0 c.in-Program.start
-    c.in-Program.rows c.in-Program.depth c.in-Program.deepest a.table.now c.program-a.new.table
-    (sym c.program-a.ensures.0 ∙ c.in-Program.is) c.program-a.ensures.1 in
-    λ o. too_deep a.source.now a.kinds.now a.places.now a.values.now c.requires.1.1.0 c.requires.1.1.1.0 c.in-Program.start
-    c.in-Program.rows c.in-Program.depth c.in-Program.deepest a.table.now c.program-a.new.table k
-    (omega (arith, c.if-depth-gt-DEPTH_LIMIT.true))
+    let k = came a.source.now a.kinds.now a.places.now a.values.now c.requires.1.1.0 c.requires.1.1.1.0 c.in-Ok.p.start
+    c.in-Ok.p.rows c.in-Ok.p.depth c.in-Ok.p.deepest a.table.now c.program.new.table
+    (sym c.in-Ok.ensures.0) c.in-Ok.ensures.1 in
+    λ o. too_deep a.source.now a.kinds.now a.places.now a.values.now c.requires.1.1.0 c.requires.1.1.1.0 c.in-Ok.p.start
+    c.in-Ok.p.rows c.in-Ok.p.depth c.in-Ok.p.deepest a.table.now c.program.new.table k
+    (omega (arith, c.if-p-gt-DEPTH_LIMIT.true))
 
-pub returns-then-deepest-gt-DEPTH_LIMIT : goal.returns-then-deepest-gt-DEPTH_LIMIT
-returns-then-deepest-gt-DEPTH_LIMIT c =
+pub returns-then-p-gt-DEPTH_LIMIT-2 : goal.returns-then-p-gt-DEPTH_LIMIT-2
+returns-then-p-gt-DEPTH_LIMIT-2 c =
     let a = c.args in
-    let k = came a.source.now a.kinds.now a.places.now a.values.now c.requires.1.1.0 c.requires.1.1.1.0 c.in-Program.start c.in-Program.rows
-    c.in-Program.depth c.in-Program.deepest a.table.now c.program-a.new.table (sym c.program-a.ensures.0 ∙ c.in-Program.is) c.program-a.ensures.1 in
-    λ o. too_deep a.source.now a.kinds.now a.places.now a.values.now c.requires.1.1.0 c.requires.1.1.1.0 c.in-Program.start c.in-Program.rows
-    c.in-Program.depth c.in-Program.deepest a.table.now c.program-a.new.table k (omega (arith, c.if-deepest-gt-DEPTH_LIMIT.true))
+    let k = came a.source.now a.kinds.now a.places.now a.values.now c.requires.1.1.0 c.requires.1.1.1.0 c.in-Ok.p.start c.in-Ok.p.rows
+    c.in-Ok.p.depth c.in-Ok.p.deepest a.table.now c.program.new.table (sym c.in-Ok.ensures.0) c.in-Ok.ensures.1 in
+    λ o. too_deep a.source.now a.kinds.now a.places.now a.values.now c.requires.1.1.0 c.requires.1.1.1.0 c.in-Ok.p.start c.in-Ok.p.rows
+    c.in-Ok.p.depth c.in-Ok.p.deepest a.table.now c.program.new.table k (omega (arith, c.if-p-gt-DEPTH_LIMIT-2.true))
 
 pub names-requires : goal.names-requires
 names-requires c =
     let a = c.args in
-    let k = came a.source.now a.kinds.now a.places.now a.values.now c.requires.1.1.0 c.requires.1.1.1.0 c.in-Program.start c.in-Program.rows
-    c.in-Program.depth c.in-Program.deepest a.table.now c.program-a.new.table (sym c.program-a.ensures.0 ∙ c.in-Program.is) c.program-a.ensures.1 in
-    small a.source.now a.kinds.now a.places.now a.values.now c.requires.1.1.0 c.requires.1.1.1.0 c.in-Program.start c.in-Program.rows
-    c.in-Program.depth c.in-Program.deepest a.table.now c.program-a.new.table k c.requires.1.0
+    let k = came a.source.now a.kinds.now a.places.now a.values.now c.requires.1.1.0 c.requires.1.1.1.0 c.in-Ok.p.start c.in-Ok.p.rows
+    c.in-Ok.p.depth c.in-Ok.p.deepest a.table.now c.program.new.table (sym c.in-Ok.ensures.0) c.in-Ok.ensures.1 in
+    small a.source.now a.kinds.now a.places.now a.values.now c.requires.1.1.0 c.requires.1.1.1.0 c.in-Ok.p.start c.in-Ok.p.rows
+    c.in-Ok.p.depth c.in-Ok.p.deepest a.table.now c.program.new.table k c.requires.1.0
 
-pub returns-else-deepest-gt-DEPTH_LIMIT : goal.returns-else-deepest-gt-DEPTH_LIMIT
-returns-else-deepest-gt-DEPTH_LIMIT c =
+pub returns-else-p-gt-DEPTH_LIMIT-2 : goal.returns-else-p-gt-DEPTH_LIMIT-2
+returns-else-p-gt-DEPTH_LIMIT-2 c =
     let a = c.args in
-    let k = came a.source.now a.kinds.now a.places.now a.values.now c.requires.1.1.0 c.requires.1.1.1.0 c.in-Program.start c.in-Program.rows
-    c.in-Program.depth c.in-Program.deepest a.table.now c.program-a.new.table (sym c.program-a.ensures.0 ∙ c.in-Program.is) c.program-a.ensures.1 in
+    let k = came a.source.now a.kinds.now a.places.now a.values.now c.requires.1.1.0 c.requires.1.1.1.0 c.in-Ok.p.start c.in-Ok.p.rows
+    c.in-Ok.p.depth c.in-Ok.p.deepest a.table.now c.program.new.table (sym c.in-Ok.ensures.0) c.in-Ok.ensures.1 in
     λ o. subst (λ (x : Outcome). Analysed x c.names.new.table c.names.result)
-    (sym (as_names a.source.now a.kinds.now a.places.now a.values.now c.requires.1.1.0 c.requires.1.1.1.0 c.in-Program.start c.in-Program.rows
-    c.in-Program.depth c.in-Program.deepest a.table.now c.program-a.new.table k
-    (omega (arith, c.if-depth-gt-DEPTH_LIMIT.false, c.if-deepest-gt-DEPTH_LIMIT.false))))
+    (sym (as_names a.source.now a.kinds.now a.places.now a.values.now c.requires.1.1.0 c.requires.1.1.1.0 c.in-Ok.p.start c.in-Ok.p.rows
+    c.in-Ok.p.depth c.in-Ok.p.deepest a.table.now c.program.new.table k
+    (omega (arith, c.if-p-gt-DEPTH_LIMIT.false, c.if-p-gt-DEPTH_LIMIT-2.false))))
     (c.names.ensures k.tree
-    (ready a.source.now a.kinds.now a.places.now a.values.now c.requires.1.1.0 c.requires.1.1.1.0 c.in-Program.start c.in-Program.rows
-    c.in-Program.depth c.in-Program.deepest a.table.now c.program-a.new.table k o c.requires.1.1.1.1.0 c.requires.1.0))
+    (ready a.source.now a.kinds.now a.places.now a.values.now c.requires.1.1.0 c.requires.1.1.1.0 c.in-Ok.p.start c.in-Ok.p.rows
+    c.in-Ok.p.depth c.in-Ok.p.deepest a.table.now c.program.new.table k o c.requires.1.1.1.1.0 c.requires.1.0))
