@@ -39,14 +39,14 @@ pub struct Frame {
     pub level: u32,
 }
 
-// What a token does: the next mode, operator and level, whether a frame is popped, and the frame that is pushed (mark 0: none).
+// What a token does: the next mode, operator and level, whether a frame is popped, and which one is pushed.
 #[derive(Clone, Copy)]
 pub struct Action {
     pub mode: u8,
     pub operator: u32,
     pub level: u32,
     pub pops: bool,
-    pub pushed: Frame,
+    pub pushed: Option<Frame>,
 }
 
 // The automaton's control, and the number of frames in the table.
@@ -72,26 +72,16 @@ fn deeper(level: u32) -> u32
     if level < LEVELS { level + 1 } else { LEVELS }
 }
 
-fn no_frame() -> Frame
-    ensures { result ≡ rules.no_frame }
-{
-    Frame {
-        mark: mark::NOTHING_OPEN,
-        operator: 0,
-        level: 0,
-    }
-}
-
 // The stack stays as it is.
 fn stay(mode: u8, operator: u32, level: u32) -> Action
     ensures { result ≡ rules.stay mode operator level }
 {
     Action {
-        mode: mode,
-        operator: operator,
-        level: level,
+        mode,
+        operator,
+        level,
         pops: false,
-        pushed: no_frame(),
+        pushed: None,
     }
 }
 
@@ -100,11 +90,11 @@ fn leave(mode: u8, operator: u32, level: u32) -> Action
     ensures { result ≡ rules.leave mode operator level }
 {
     Action {
-        mode: mode,
-        operator: operator,
-        level: level,
+        mode,
+        operator,
+        level,
         pops: true,
-        pushed: no_frame(),
+        pushed: None,
     }
 }
 
@@ -113,15 +103,15 @@ fn enter(mode: u8, level: u32, mark: u32, operator: u32, below: u32) -> Action
     ensures { result ≡ rules.enter mode level mark operator below }
 {
     Action {
-        mode: mode,
+        mode,
         operator: 0,
-        level: level,
+        level,
         pops: false,
-        pushed: Frame {
-            mark: mark,
-            operator: operator,
+        pushed: Some(Frame {
+            mark,
+            operator,
             level: below,
-        },
+        }),
     }
 }
 
@@ -134,11 +124,11 @@ fn choose(level: u32) -> Action
         operator: 0,
         level: deeper(level),
         pops: true,
-        pushed: Frame {
+        pushed: Some(Frame {
             mark: mark::THEN_OPEN,
             operator: 0,
-            level: level,
-        },
+            level,
+        }),
     }
 }
 
@@ -456,6 +446,17 @@ fn decide(mode: u8, o: u32, level: u32, f: Frame, k: u8) -> Action
     in_expression(mode, o, level, f, k)
 }
 
+// The frame where nothing is open.
+fn no_frame() -> Frame
+    ensures { result ≡ rules.no_frame }
+{
+    Frame {
+        mark: mark::NOTHING_OPEN,
+        operator: 0,
+        level: 0,
+    }
+}
+
 // The innermost of the frames in the table, or none.
 fn innermost(table: &[u32; 4096], height: usize) -> Frame
     requires { height ≤ 1024 }
@@ -477,12 +478,10 @@ fn popped(height: usize, pops: bool) -> usize
     ensures { result ≡ rules.popped height pops }
 {
     if pops {
-        if 0 < height {
-            return height - 1;
-        }
-        return 0;
+        height.saturating_sub(1)
+    } else {
+        height
     }
-    height
 }
 
 // The stack after an action.
@@ -490,28 +489,16 @@ fn apply(table: &mut [u32; 4096], height: usize, a: Action) -> Control
     requires { (length table.old ≡ 4096) × (height < 1024) }
     ensures { (viewed table.new result ≡ rules.act a (rules.frames table.old height)) × (result.height ≤ height + 1) × (length table.new ≡ 4096) }
 {
-    let h = popped(height, a.pops);
-    if a.pushed.mark == mark::NOTHING_OPEN {
-        return Control {
-            mode: a.mode,
-            operator: a.operator,
-            level: a.level,
-            height: h,
-        };
+    let mut h = popped(height, a.pops);
+    if let Some(f) = a.pushed {
+        put(table, h, f.mark, f.operator, f.level, 0);
+        h += 1;
     }
-    put(
-        table,
-        h,
-        a.pushed.mark,
-        a.pushed.operator,
-        a.pushed.level,
-        0,
-    );
     Control {
         mode: a.mode,
         operator: a.operator,
         level: a.level,
-        height: h + 1,
+        height: h,
     }
 }
 
