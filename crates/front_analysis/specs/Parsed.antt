@@ -1,5 +1,5 @@
 -- What the reader's answer says of a source's tokens: 6, 7, or a program whose names come next. Laws; assumes nothing.
-use Rattle.std.specs.Prelude.{◌≡◌, List, ℕ, ◌+◌, ◌-◌, ◌*◌, ◌≤◌, ◌<◌, max, ltb, length, get_or}
+use Rattle.std.specs.Prelude.{◌≡◌, List, ℕ, ◌+◌, ◌-◌, ◌*◌, ◌≤◌, ◌<◌, max, ltb, length, get_or, Result, Ok, Err}
 use Rattle.std.proofs.Math.Path.{refl, ap}
 use Rattle.std.proofs.Common.{sym, subst, ◌∙◌, arith, lt-ltb, le-ltb}
 use Rattle.std.proofs.lemmas.List.Edits.{sets}
@@ -25,15 +25,22 @@ use Rattle.x_verdict.specs.Front as front
 use Rattle.x_verdict.specs.Symbols.{symbols, text_of}
 use Rattle.x_verdict.specs.Front.{judged, named, parsed}
 use Rattle.x_verdict.proofs.Refused.{least_first_in_text}
-use Rattle.front_read_program.specs.Answer.{answer, Written, process_start}
-use Rattle.front_read_program.specs.declared.Answer.TheVariants as read
-use Rattle.front_recognizer.specs.declared.Recognized.TheVariants as recognizer
-use Rattle.front_recognizer.specs.Recognized.{Says}
+use Rattle.front_read_program.specs.Answer.{answer, refused_at as read_refused, Written, process_start}
+use Rattle.front_read_program.specs.declared.Parsed as program_parsed
+use Rattle.front_read_expressions.specs.declared.Ungrammatical.{Ungrammatical}
+use Rattle.front_recognizer.specs.Recognized.{Says, refused_at as recognizer_refused}
 use Rattle.front_names_table.specs.View.{place_at}
 use Rattle.front_analysis.specs.Arrays.{symbols_all, unread_all, length_entries, place_all, text_all}
 use Rattle.x_grammar.specs.RawRowCount.{few_rows}
 use Rattle.x_program.specs.Layout.{row_words}
 use Rattle.front_analysis.specs.Named.{holds_set, Ready, named_as}
+
+-- equal answers have equal values
+same_token : (x y : Ungrammatical) → ◌≡◌ {A = Result program_parsed.Parsed Ungrammatical} (Err x) (Err y) → x.token ≡ y.token
+same_token x y e = let z : x ≡ y = cc in ap (λ (x : Ungrammatical). x.token) z
+
+same_program : (x y : program_parsed.Parsed) → ◌≡◌ {A = Result program_parsed.Parsed Ungrammatical} (Ok x) (Ok y) → y ≡ x
+same_program x y e = cc
 
 module _ (source ks ps vs : List ℕ) (lp : length ps ≡ length ks) (lv : length vs ≡ length ks) where
   abbrev ts : List Entry
@@ -50,20 +57,20 @@ module _ (source ks ps vs : List ℕ) (lp : length ps ≡ length ks) (lv : lengt
   as_read = ap (λ (w : List Rattle.x_grammar.specs.Grammar.Token). parsed source ts (reads w)) (symbols_all ks ps vs (length ks) refl lp lv)
 
   -- 6 at token i
-  pub refused_at : (i place : ℕ) → answer (length ks) R ≡ read.Refused i → place ≡ pick (ltb i (length ps)) (get_or ps i 0) (length source) → come ≡ front.refused refusal.ungrammatical place
+  pub refused_at : (i place : ℕ) → answer (length ks) R ≡ read_refused i → place ≡ pick (ltb i (length ps)) (get_or ps i 0) (length source) → come ≡ front.refused refusal.ungrammatical place
   refused_at i place e h = as_read ∙ by R e
     where
-      by : (r : Reading) → answer (length ks) r ≡ read.Refused i → parsed source ts r ≡ front.refused refusal.ungrammatical place
+      by : (r : Reading) → answer (length ks) r ≡ read_refused i → parsed source ts r ≡ front.refused refusal.ungrammatical place
       by (automaton.accepted p) e = let z : ◌≡◌ {A = ℕ} 0 1 = cc in absurd (omega arith)
       by (automaton.refused u) e =
-          let z : length ks - length u ≡ i = cc in
+          let z : length ks - length u ≡ i = same_token _ _ e in
           ap (front.refused 6) (unread_all ks ps vs (length ks) refl lp lv (length u) (length source) ∙ ap (λ (k : ℕ). pick (ltb k (length ps)) (get_or ps k 0) (length source)) z ∙ sym h)
 
   -- the recognizer's answers
-  pub recognized_bad : (i place : ℕ) → Says (length ks) R (recognizer.Bad i) → place ≡ pick (ltb i (length ps)) (get_or ps i 0) (length source) → come ≡ front.refused refusal.ungrammatical place
+  pub recognized_bad : (i place : ℕ) → Says (length ks) R (recognizer_refused i) → place ≡ pick (ltb i (length ps)) (get_or ps i 0) (length source) → come ≡ front.refused refusal.ungrammatical place
   recognized_bad i place h e =
       let z : length ks - length h.0 ≡ i = omega (arith, h.2) in
-      refused_at i place (ap (answer (length ks)) h.1 ∙ ap read.Refused z) e
+      refused_at i place (ap (answer (length ks)) h.1 ∙ ap read_refused z) e
 
   pub deep_program : (p : Program) → R ≡ automaton.accepted p → grammar_depth.depth_limit < max (grammar_depth.depth p) (grammar_depth.deepest p) → come ≡ front.refused refusal.deep_program 0
   unfolding named
@@ -79,12 +86,22 @@ module _ (source ks ps vs : List ℕ) (lp : length ps ≡ length ks) (lv : lengt
     pub deepest_is : deepest ≡ grammar_depth.deepest tree
     pub table : t' ≡ sets t (row_words * raw.first_row tree) (raw.rows tree)
 
-  pub came : (start rows depth deepest : ℕ) (t t' : List ℕ) → answer (length ks) R ≡ read.Program start rows depth deepest → Written R t t' → Came start rows depth deepest t t'
+  pub came : (start rows depth deepest : ℕ) (t t' : List ℕ) → answer (length ks) R ≡ Ok (record { start = start; rows = rows; depth = depth; deepest = deepest }) → Written R t t' → Came start rows depth deepest t t'
   came start rows depth deepest t t' e h = by R refl e h
     where
-      by : (r : Reading) → R ≡ r → answer (length ks) r ≡ read.Program start rows depth deepest → Written r t t' → Came start rows depth deepest t t'
+      by : (r : Reading) → R ≡ r → answer (length ks) r ≡ Ok (record { start = start; rows = rows; depth = depth; deepest = deepest }) → Written r t t' → Came start rows depth deepest t t'
       by (automaton.refused u) q e h = let z : ◌≡◌ {A = ℕ} 0 1 = cc in absurd (omega arith)
-      by (automaton.accepted p) q e h = record { tree = p; reading = q; start_is = cc; rows_are = cc; depth_is = cc; deepest_is = cc; table = h }
+      by (automaton.accepted p) q e h =
+          let s = same_program _ _ e in
+          record {
+            tree = p;
+            reading = q;
+            start_is = ap (λ (x : program_parsed.Parsed). x.start) s;
+            rows_are = ap (λ (x : program_parsed.Parsed). x.rows) s;
+            depth_is = ap (λ (x : program_parsed.Parsed). x.depth) s;
+            deepest_is = ap (λ (x : program_parsed.Parsed). x.deepest) s;
+            table = h;
+          }
 
   module _ (start rows depth deepest : ℕ) (t t' : List ℕ) (c : Came start rows depth deepest t t') where
     abbrev p : Program

@@ -15,8 +15,8 @@ ghost use Rattle.front_analysis.specs.Named.{Ready, named_as};
 use front_names_bind::bind;
 use front_names_resolve::resolve;
 use front_names_table::{Names, Tokens, number};
-use front_read_program::{Answer, program};
-use front_recognizer::{Recognized, recognize};
+use front_read_program::program;
+use front_recognizer::{Fault, recognize};
 use x_program::row;
 use x_tokens::refusal::{Reason, Refusal};
 use x_tokens::tokens;
@@ -91,17 +91,16 @@ fn read(source: &[u8], tokens: Tokens, table: &mut [u32; 4096]) -> Result<Accept
         × Bounded (reads (unread tokens.kinds.now tokens.values.now 0))))) }
     ensures { Parses source.now (scanned.entries tokens.entry.kinds.now tokens.entry.places.now tokens.entry.values.now 0 (length tokens.entry.kinds.now)) table.new result }
 {
-    let a = program(tokens.kinds, tokens.values, table);
-    match a {
-        Answer::Refused(i) => Err(Refusal {
+    match program(tokens.kinds, tokens.values, table) {
+        Err(x) => Err(Refusal {
             reason: Reason::Ungrammatical,
-            place: place_of(tokens.places, i, source.len() as u32),
+            place: place_of(tokens.places, x.token, source.len() as u32),
         }),
-        Answer::Program(start, rows, depth, deepest) => {
-            if DEPTH_LIMIT < depth.max(deepest) {
+        Ok(p) => {
+            if DEPTH_LIMIT < p.depth.max(p.deepest) {
                 return Err(whole(Reason::DeepProgram));
             }
-            names(source, tokens, table, start, rows, deepest)
+            names(source, tokens, table, p.start, p.rows, p.deepest)
         }
     }
 }
@@ -114,12 +113,12 @@ fn parse(source: &[u8], tokens: Tokens, table: &mut [u32; 4096]) -> Result<Accep
     ensures { Parses source.now (scanned.entries tokens.entry.kinds.now tokens.entry.places.now tokens.entry.values.now 0 (length tokens.entry.kinds.now)) table.new result }
 {
     match recognize(tokens.kinds, table) {
-        Recognized::Bad(i) => Err(Refusal {
+        Err(Fault::Ungrammatical(x)) => Err(Refusal {
             reason: Reason::Ungrammatical,
-            place: place_of(tokens.places, i, source.len() as u32),
+            place: place_of(tokens.places, x.token, source.len() as u32),
         }),
-        Recognized::Deep => Err(whole(Reason::DeepProgram)),
-        Recognized::Program => read(source, tokens, table),
+        Err(Fault::Deep) => Err(whole(Reason::DeepProgram)),
+        Ok(()) => read(source, tokens, table),
     }
 }
 

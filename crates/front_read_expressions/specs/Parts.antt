@@ -1,5 +1,5 @@
 -- What a reader's answer and table say, from what its calls' say. Laws; rests on Reads, the automaton's moves and the unread tokens.
-use Rattle.std.specs.Prelude.{◌≡◌, refl, Bool, true, false, List, ◌∷◌, ◌++◌, ℕ, ◌+◌, ◌-◌, ◌*◌, ◌<◌, ◌≤◌, eqb, leb, length, get_or}
+use Rattle.std.specs.Prelude.{◌≡◌, refl, Bool, true, false, List, ◌∷◌, ◌++◌, ℕ, ◌+◌, ◌-◌, ◌*◌, ◌<◌, ◌≤◌, eqb, leb, length, get_or, Ok, Err}
 use Rattle.std.proofs.Common.{ap, ◌∙◌, ⊎_elim, length-append, eqb-true, leb-true}
 use native.Mathlib.Omega.{arith}
 use Rattle.std.proofs.lemmas.List.Edits.{sets}
@@ -18,27 +18,27 @@ use Rattle.x_grammar.specs.AutomatonMoves.{run_expression, run_monadic, run_unde
 use Rattle.x_grammar.specs.Unread.{inside, unread_number, unread_name, unread_mark, unread_joins, unread_negates, unread_not, unread_goes_on, no_operand}
 use Rattle.x_program.specs.Layout.{row_words}
 use Rattle.x_program.specs.Layout as layout
-use Rattle.front_read_expressions.specs.Reads.{Form, Moved, Reads, operand_form, expression_form, chain_form, closed, deepened, counted_row, tabled, row_of_last, row_of_two, Within}
+use Rattle.front_read_expressions.specs.Reads.{Read, done, bad, Form, Moved, Reads, operand_form, expression_form, chain_form, closed, deepened, counted_row, tabled, row_of_last, row_of_two, Within}
 use Rattle.front_read_expressions.specs.Reads.{Ready, Shallow}
-use Rattle.front_read_expressions.specs.declared.Read.{Read}
-use Rattle.front_read_expressions.specs.declared.Read.TheVariants.{Done, Bad}
+use Rattle.front_read_expressions.specs.declared.Extent.{Extent}
+use Rattle.front_read_expressions.specs.declared.Ungrammatical.{Ungrammatical}
 
 -- what a reader came to can be closed, deepened, and followed by a row
 pub within_of : (kinds : List ℕ) (i n : ℕ) (r : Read) → Moved kinds i n r → Within kinds r
-within_of kinds i n (Done j m p d) h = h.short
-within_of kinds i n (Bad x) h = tt
+within_of kinds i n (Ok p) h = h.short
+within_of kinds i n (Err x) h = tt
 
 pub ready_of : (kinds : List ℕ) (i n : ℕ) (r : Read) → Moved kinds i n r → n < i → length kinds ≤ 1024 → Ready r
-ready_of kinds i n (Done j m p d) h l s = (omega arith, omega arith)
-ready_of kinds i n (Bad x) h l s = tt
+ready_of kinds i n (Ok p) h l s = (omega arith, omega arith)
+ready_of kinds i n (Err x) h l s = tt
 
 pub shallow_of : (kinds : List ℕ) (i n : ℕ) (r : Read) → Moved kinds i n r → length kinds ≤ 1024 → Shallow r
-shallow_of kinds i n (Done j m p d) h s = (omega arith, omega arith)
-shallow_of kinds i n (Bad x) h s = tt
+shallow_of kinds i n (Ok p) h s = (omega arith, omega arith)
+shallow_of kinds i n (Err x) h s = tt
 
 pub shallow_after : (kinds : List ℕ) (i n : ℕ) (r s : Read) → Moved kinds i n r → length kinds ≤ 1024 → s ≡ counted_row r → Shallow s
-shallow_after kinds i n (Done j m p d) s h l e = rw e (shallow_of kinds i n (Done j m p d) h l)
-shallow_after kinds i n (Bad x) s h l e = rw e tt
+shallow_after kinds i n (Ok p) s h l e = rw e (shallow_of kinds i n (Ok p) h l)
+shallow_after kinds i n (Err x) s h l e = rw e tt
 
 pub monadic_big : (o : ℕ) → is_monadic o ≡ true → 2 < o
 monadic_big o h = ⊎_elim (λ e. let z = eqb-true o kind.minus e in omega arith) (λ e. let z = eqb-true o kind.not e in omega arith) (either (eqb o kind.minus) (eqb o kind.not) h)
@@ -51,11 +51,11 @@ diadic_big o h =
     (omega arith, omega arith)
 
 pub moved_closed : (kinds : List ℕ) (i n k : ℕ) (r : Read) → 0 < k → Moved kinds i n r → Moved kinds i n (closed kinds k r)
-moved_closed kinds i n k (Done j m p d) z h =
-    by_test (λ (b : Bool). Moved kinds i n (pick b (Done (j + 1) m p d) (Bad j))) (eqb (get_or kinds j 0) k)
-    (λ e. let l = inside kinds j k (eqb-true (get_or kinds j 0) k e) z in record { short = omega arith; grew = h.grew; few = omega arith; shallow = omega arith; low = omega arith })
+moved_closed kinds i n k (Ok p) z h =
+    by_test (λ (b : Bool). Moved kinds i n (pick b (done (p.next + 1) p.rows p.depth p.deepest) (bad p.next))) (eqb (get_or kinds p.next 0) k)
+    (λ e. let l = inside kinds p.next k (eqb-true (get_or kinds p.next 0) k e) z in record { short = omega arith; grew = h.grew; few = omega arith; shallow = omega arith; low = omega arith })
     (λ e. h.short)
-moved_closed kinds i n k (Bad x) z h = h
+moved_closed kinds i n k (Err x) z h = h
 
 -- rows after rows, and the row that ends them
 pub table_one : (t t' xs ρ : List ℕ) (n c m : ℕ) → length xs ≡ row_words * c → n + c ≡ m → t' ≡ sets t (row_words * n) xs → sets t' (row_words * m) ρ ≡ sets t (row_words * n) (xs ++ ρ)
@@ -80,10 +80,10 @@ module _ (kinds values : List ℕ) (i n : ℕ) (t : List ℕ) where
       (on : (w : List Token) (e : F.Tree) (k : C) → run (mark m ∷ w) (F.have e (c k)) ≡ run w (have e k))
       (off : (w : List Token) (e : F.Tree) (k : C) → head_is (is m) w ≡ false → run w (F.have e (c k)) ≡ refused w) where
     pub close_part : (r : Read) (t' : List ℕ) → Reads F kinds values i n t r t' → Reads (closing F C c have) kinds values i n t (closed kinds m r) t'
-    close_part (Done j l p d) t' h =
-        by_test (λ (b : Bool). Reads (closing F C c have) kinds values i n t (pick b (Done (j + 1) l p d) (Bad j)) t') (eqb (get_or kinds j 0) m)
-        (λ q. let f = eqb-true (get_or kinds j 0) m q in
-        let z = inside kinds j m f (omega arith) in
+    close_part (Ok p) t' h =
+        by_test (λ (b : Bool). Reads (closing F C c have) kinds values i n t (pick b (done (p.next + 1) p.rows p.depth p.deepest) (bad p.next)) t') (eqb (get_or kinds p.next 0) m)
+        (λ q. let f = eqb-true (get_or kinds p.next 0) m q in
+        let z = inside kinds p.next m f (omega arith) in
         let w = h.0 in (
           record { short = omega arith; grew = w.grew; few = omega arith; shallow = omega arith; low = omega arith },
           record {
@@ -92,15 +92,15 @@ module _ (kinds values : List ℕ) (i n : ℕ) (t : List ℕ) where
             table = h.1.table;
             depths = h.1.depths;
             deepests = h.1.deepests;
-            comes = λ k. h.1.comes (c k) ∙ rw (unread_mark kinds values j m f big) (on _ h.1.tree k);
+            comes = λ k. h.1.comes (c k) ∙ rw (unread_mark kinds values p.next m f big) (on _ h.1.tree k);
           },
         ))
-        (λ q. (h.0.short, λ k. h.1.comes (c k) ∙ off _ h.1.tree k (unread_not kinds values j m big (eqb-false (get_or kinds j 0) m q))))
-    close_part (Bad x) t' h = (h.0, λ k. h.1 (c k))
+        (λ q. (h.0.short, λ k. h.1.comes (c k) ∙ off _ h.1.tree k (unread_not kinds values p.next m big (eqb-false (get_or kinds p.next 0) m q))))
+    close_part (Err x) t' h = (h.0, λ k. h.1 (c k))
 
   -- operands
   pub operand_number : (t' : List ℕ) → get_or kinds i 0 ≡ kind.number → t' ≡ sets t (row_words * n) (row layout.number (get_or values i 0) 0 0)
-      → Reads operand_form kinds values i n t (Done (i + 1) (n + 1) 0 1) t'
+      → Reads operand_form kinds values i n t (done (i + 1) (n + 1) 0 1) t'
   unfolding count_operand rows_operand
   operand_number t' e h =
       let l = inside kinds i kind.number e (omega arith) in (
@@ -109,7 +109,7 @@ module _ (kinds values : List ℕ) (i n : ℕ) (t : List ℕ) where
       )
 
   pub operand_variable : (t' : List ℕ) → get_or kinds i 0 ≡ kind.name → ¬ (get_or kinds (i + 1) 0 ≡ kind.open_subscript) → t' ≡ sets t (row_words * n) (row layout.variable i 0 0)
-      → Reads operand_form kinds values i n t (Done (i + 1) (n + 1) 0 1) t'
+      → Reads operand_form kinds values i n t (done (i + 1) (n + 1) 0 1) t'
   unfolding count_operand rows_operand
   operand_variable t' e z h =
       let l = inside kinds i kind.name e (omega arith) in (
@@ -125,7 +125,7 @@ module _ (kinds values : List ℕ) (i n : ℕ) (t : List ℕ) where
       )
 
   pub operand_none : i ≤ length kinds → (t' : List ℕ) → ¬ (get_or kinds i 0 ≡ kind.number) → ¬ (get_or kinds i 0 ≡ kind.name) → ¬ (get_or kinds i 0 ≡ kind.open_bracket)
-      → Reads operand_form kinds values i n t (Bad i) t'
+      → Reads operand_form kinds values i n t (bad i) t'
   operand_none l t' a b c = (l, λ k. no_operand kinds values i k a b c)
 
   into_brackets : get_or kinds i 0 ≡ kind.open_bracket → (k : OperandContext) → run (unread kinds values i) (need_operand k) ≡ run (unread kinds values (i + 1)) (need_expression (in_brackets k))
@@ -135,14 +135,14 @@ module _ (kinds values : List ℕ) (i n : ℕ) (t : List ℕ) where
       → Reads (closing expression_form OperandContext in_brackets (λ e k. have_operand (bracketed e) k)) kinds values (i + 1) n t q t'
       → Reads operand_form kinds values i n t (deepened q 0 0 0 1) t'
   unfolding count_operand rows_operand
-  brackets_by (Done j m p d) t' e h =
+  brackets_by (Ok p) t' e h =
       let w = h.0 in
       let x = h.1.depths in
       let y = h.1.deepests in (
         record { short = w.short; grew = w.grew; few = omega arith; shallow = omega arith; low = omega arith },
         record { tree = bracketed h.1.tree; counted = h.1.counted; table = h.1.table; depths = omega arith; deepests = omega arith; comes = λ k. into_brackets e k ∙ h.1.comes k },
       )
-  brackets_by (Bad x) t' e h = (h.0, λ k. into_brackets e k ∙ h.1 k)
+  brackets_by (Err x) t' e h = (h.0, λ k. into_brackets e k ∙ h.1 k)
 
   into_subscript : get_or kinds i 0 ≡ kind.name → get_or kinds (i + 1) 0 ≡ kind.open_subscript → (k : OperandContext)
       → run (unread kinds values i) (need_operand k) ≡ run (unread kinds values (i + 2)) (need_expression (in_subscript i k))
@@ -154,7 +154,7 @@ module _ (kinds values : List ℕ) (i n : ℕ) (t : List ℕ) where
       → Reads (closing expression_form OperandContext (in_subscript i) (λ e k. have_operand (element i e) k)) kinds values (i + 2) n t q t'
       → Reads operand_form kinds values i n t (deepened (counted_row q) 0 0 0 1) (tabled t' q (row_of_last layout.element i))
   unfolding count_operand rows_operand
-  element_by (Done j m p d) t' e f h =
+  element_by (Ok p) t' e f h =
       let w = h.0 in
       let c = h.1.counted in
       let x = h.1.depths in
@@ -163,13 +163,13 @@ module _ (kinds values : List ℕ) (i n : ℕ) (t : List ℕ) where
         record {
           tree = element i h.1.tree;
           counted = omega arith;
-          table = rw c (table_one t t' (rows_expression h.1.tree n) _ n (count_expression h.1.tree) m (length_expression h.1.tree n) c h.1.table);
+          table = rw c (table_one t t' (rows_expression h.1.tree n) _ n (count_expression h.1.tree) p.rows (length_expression h.1.tree n) c h.1.table);
           depths = omega arith;
           deepests = omega arith;
           comes = λ k. into_subscript e f k ∙ h.1.comes k;
         },
       )
-  element_by (Bad x) t' e f h = (h.0, λ k. into_subscript e f k ∙ h.1 k)
+  element_by (Err x) t' e f h = (h.0, λ k. into_subscript e f k ∙ h.1 k)
 
 module _ (kinds values : List ℕ) (i n : ℕ) (t : List ℕ) (r : Read) (t' : List ℕ) where
   pub operand_brackets : get_or kinds i 0 ≡ kind.open_bracket → Reads expression_form kinds values (i + 1) n t r t'
@@ -197,7 +197,7 @@ module _ (kinds values : List ℕ) (i n : ℕ) (t : List ℕ) where
   pub expression_monadic : (o : ℕ) (r : Read) (t' : List ℕ) → get_or kinds i 0 ≡ o → 2 < o → is_monadic o ≡ true → Reads operand_form kinds values (i + 1) n t r t'
       → Reads expression_form kinds values i n t (deepened (counted_row r) 0 0 0 1) (tabled t' r (row_of_last layout.monadic (monadic_number o)))
   unfolding count_expression rows_expression
-  expression_monadic o (Done j m p d) t' e big z h =
+  expression_monadic o (Ok p) t' e big z h =
       let w = h.0 in
       let c = h.1.counted in
       let x = h.1.depths in
@@ -206,23 +206,23 @@ module _ (kinds values : List ℕ) (i n : ℕ) (t : List ℕ) where
         record {
           tree = monadic o h.1.tree;
           counted = omega arith;
-          table = rw c (table_one t t' (rows_operand h.1.tree n) _ n (count_operand h.1.tree) m (length_operand h.1.tree n) c h.1.table);
+          table = rw c (table_one t t' (rows_operand h.1.tree n) _ n (count_operand h.1.tree) p.rows (length_operand h.1.tree n) c h.1.table);
           depths = omega arith;
           deepests = omega arith;
           comes = λ k. into_monadic o e big z k ∙ h.1.comes (under o k) ∙ run_under _ k o _;
         },
       )
-  expression_monadic o (Bad x) t' e big z h = (h.0, λ k. into_monadic o e big z k ∙ h.1 (under o k))
+  expression_monadic o (Err x) t' e big z h = (h.0, λ k. into_monadic o e big z k ∙ h.1 (under o k))
 
-  pub expression_bad : (x : ℕ) (t' : List ℕ) → is_monadic (get_or kinds i 0) ≡ false → Reads operand_form kinds values i n t (Bad x) t' → Reads expression_form kinds values i n t (Bad x) t'
+  pub expression_bad : (x : Ungrammatical) (t' : List ℕ) → is_monadic (get_or kinds i 0) ≡ false → Reads operand_form kinds values i n t (Err x) t' → Reads expression_form kinds values i n t (Err x) t'
   expression_bad x t' z h = (h.0, λ k. to_operand z k ∙ h.1 (first k))
 
-  pub chain_bad : (o x : ℕ) (t' : List ℕ) → Reads operand_form kinds values i n t (Bad x) t' → Reads (chain_form o) kinds values i n t (Bad x) t'
+  pub chain_bad : (o : ℕ) (x : Ungrammatical) (t' : List ℕ) → Reads operand_form kinds values i n t (Err x) t' → Reads (chain_form o) kinds values i n t (Err x) t'
   chain_bad o x t' h = (h.0, λ k. h.1 (next o k))
 
   -- an operand, its rows up to m, and the token at j after it
-  module _ (j m p d : ℕ) (t' : List ℕ) (h : Reads operand_form kinds values i n t (Done j m p d) t') where
-    pub expression_single : is_monadic (get_or kinds i 0) ≡ false → is_diadic (get_or kinds j 0) ≡ false → Reads expression_form kinds values i n t (Done j m p d) t'
+  module _ (p : Extent) (t' : List ℕ) (h : Reads operand_form kinds values i n t (Ok p) t') where
+    pub expression_single : is_monadic (get_or kinds i 0) ≡ false → is_diadic (get_or kinds p.next 0) ≡ false → Reads expression_form kinds values i n t (Ok p) t'
     unfolding count_expression rows_expression
     expression_single z y = (
       h.0,
@@ -232,11 +232,11 @@ module _ (kinds values : List ℕ) (i n : ℕ) (t : List ℕ) where
         table = h.1.table;
         depths = h.1.depths;
         deepests = h.1.deepests;
-        comes = λ k. to_operand z k ∙ h.1.comes (first k) ∙ run_single _ k h.1.tree (unread_joins kinds values j ∙ y);
+        comes = λ k. to_operand z k ∙ h.1.comes (first k) ∙ run_single _ k h.1.tree (unread_joins kinds values p.next ∙ y);
       },
     )
 
-    pub chain_last : (o : ℕ) → 2 < o → pick (is_associative o) (eqb (get_or kinds j 0) o) false ≡ false → Reads (chain_form o) kinds values i n t (Done j m p d) t'
+    pub chain_last : (o : ℕ) → 2 < o → pick (is_associative o) (eqb (get_or kinds p.next 0) o) false ≡ false → Reads (chain_form o) kinds values i n t (Ok p) t'
     unfolding count_chain rows_chain
     chain_last o big z = (
       h.0,
@@ -246,16 +246,16 @@ module _ (kinds values : List ℕ) (i n : ℕ) (t : List ℕ) where
         table = h.1.table;
         depths = h.1.depths;
         deepests = h.1.deepests;
-        comes = λ k. h.1.comes (next o k) ∙ run_last _ k o h.1.tree (unread_goes_on kinds values j o big ∙ z);
+        comes = λ k. h.1.comes (next o k) ∙ run_last _ k o h.1.tree (unread_goes_on kinds values p.next o big ∙ z);
       },
     )
 
-    -- an operator o at j, and the operands after it
-    module _ (o : ℕ) (e : get_or kinds j 0 ≡ o) (big : 2 < o) where
-      pub expression_diadic : is_monadic (get_or kinds i 0) ≡ false → is_diadic o ≡ true → (r : Read) (t'' : List ℕ) → Reads (chain_form o) kinds values (j + 1) m t' r t''
-          → Reads expression_form kinds values i n t (deepened (counted_row r) 0 d 0 1) (tabled t'' r (row_of_two layout.diadic (diadic_number o) (m - 1)))
+    -- an operator o at p.next, and the operands after it
+    module _ (o : ℕ) (e : get_or kinds p.next 0 ≡ o) (big : 2 < o) where
+      pub expression_diadic : is_monadic (get_or kinds i 0) ≡ false → is_diadic o ≡ true → (r : Read) (t'' : List ℕ) → Reads (chain_form o) kinds values (p.next + 1) p.rows t' r t''
+          → Reads expression_form kinds values i n t (deepened (counted_row r) 0 p.deepest 0 1) (tabled t'' r (row_of_two layout.diadic (diadic_number o) (p.rows - 1)))
       unfolding count_expression rows_expression
-      expression_diadic y z (Done k l a b) t'' g =
+      expression_diadic y z (Ok q) t'' g =
           let w = h.0 in
           let u = g.0 in
           let c = h.1.counted in
@@ -268,19 +268,19 @@ module _ (kinds values : List ℕ) (i n : ℕ) (t : List ℕ) where
               tree = diadic o h.1.tree g.1.tree;
               counted = omega arith;
               table = rw (c, c')
-                  (table_two t t' t'' (rows_operand h.1.tree n) (rows_chain g.1.tree o m) _ n (count_operand h.1.tree) m (count_chain g.1.tree) l (length_operand h.1.tree n)
-                  (length_chain g.1.tree o m) c c' h.1.table g.1.table);
+                  (table_two t t' t'' (rows_operand h.1.tree n) (rows_chain g.1.tree o p.rows) _ n (count_operand h.1.tree) p.rows (count_chain g.1.tree) q.rows (length_operand h.1.tree n)
+                  (length_chain g.1.tree o p.rows) c c' h.1.table g.1.table);
               depths = omega arith;
               deepests = omega arith;
-              comes = λ K. to_operand y K ∙ h.1.comes (first K) ∙ rw (unread_mark kinds values j o e big) (run_diadic _ K o _ z ∙ g.1.comes (after h.1.tree K));
+              comes = λ K. to_operand y K ∙ h.1.comes (first K) ∙ rw (unread_mark kinds values p.next o e big) (run_diadic _ K o _ z ∙ g.1.comes (after h.1.tree K));
             },
           )
-      expression_diadic y z (Bad x) t'' g = (g.0, λ K. to_operand y K ∙ h.1.comes (first K) ∙ rw (unread_mark kinds values j o e big) (run_diadic _ K o _ z ∙ g.1 (after h.1.tree K)))
+      expression_diadic y z (Err x) t'' g = (g.0, λ K. to_operand y K ∙ h.1.comes (first K) ∙ rw (unread_mark kinds values p.next o e big) (run_diadic _ K o _ z ∙ g.1 (after h.1.tree K)))
 
-      pub chain_more : is_associative o ≡ true → (r : Read) (t'' : List ℕ) → Reads (chain_form o) kinds values (j + 1) m t' r t''
-          → Reads (chain_form o) kinds values i n t (deepened (counted_row r) 0 d 0 1) (tabled t'' r (row_of_two layout.diadic (diadic_number o) (m - 1)))
+      pub chain_more : is_associative o ≡ true → (r : Read) (t'' : List ℕ) → Reads (chain_form o) kinds values (p.next + 1) p.rows t' r t''
+          → Reads (chain_form o) kinds values i n t (deepened (counted_row r) 0 p.deepest 0 1) (tabled t'' r (row_of_two layout.diadic (diadic_number o) (p.rows - 1)))
       unfolding count_chain rows_chain
-      chain_more z (Done k l a b) t'' g =
+      chain_more z (Ok q) t'' g =
           let w = h.0 in
           let u = g.0 in
           let c = h.1.counted in
@@ -293,11 +293,11 @@ module _ (kinds values : List ℕ) (i n : ℕ) (t : List ℕ) where
               tree = more h.1.tree g.1.tree;
               counted = omega arith;
               table = rw (c, c')
-                  (table_two t t' t'' (rows_operand h.1.tree n) (rows_chain g.1.tree o m) _ n (count_operand h.1.tree) m (count_chain g.1.tree) l (length_operand h.1.tree n)
-                  (length_chain g.1.tree o m) c c' h.1.table g.1.table);
+                  (table_two t t' t'' (rows_operand h.1.tree n) (rows_chain g.1.tree o p.rows) _ n (count_operand h.1.tree) p.rows (count_chain g.1.tree) q.rows (length_operand h.1.tree n)
+                  (length_chain g.1.tree o p.rows) c c' h.1.table g.1.table);
               depths = omega arith;
               deepests = omega arith;
-              comes = λ K. h.1.comes (next o K) ∙ rw (unread_mark kinds values j o e big) (run_link _ K o _ z ∙ g.1.comes (link h.1.tree K));
+              comes = λ K. h.1.comes (next o K) ∙ rw (unread_mark kinds values p.next o e big) (run_link _ K o _ z ∙ g.1.comes (link h.1.tree K));
             },
           )
-      chain_more z (Bad x) t'' g = (g.0, λ K. h.1.comes (next o K) ∙ rw (unread_mark kinds values j o e big) (run_link _ K o _ z ∙ g.1 (link h.1.tree K)))
+      chain_more z (Err x) t'' g = (g.0, λ K. h.1.comes (next o K) ∙ rw (unread_mark kinds values p.next o e big) (run_link _ K o _ z ∙ g.1 (link h.1.tree K)))

@@ -1,5 +1,5 @@
 -- What the answer of a reader of processes says, from what its calls' say. Laws; rests on the laws of the expressions' readers.
-use Rattle.std.specs.Prelude.{◌≡◌, refl, List, ℕ, zero, suc, ◌+◌, ◌-◌, ◌*◌, ◌<◌, ◌≤◌, max, Bool, ltb, length, get_or}
+use Rattle.std.specs.Prelude.{◌≡◌, refl, List, ℕ, zero, suc, ◌+◌, ◌-◌, ◌*◌, ◌<◌, ◌≤◌, max, Bool, ltb, length, get_or, Ok, Err}
 use Rattle.std.proofs.Math.Path.{ap}
 use Rattle.std.proofs.Common.{subst, ◌∙◌, ltb-true, ltb-false}
 use native.Mathlib.Omega.{arith}
@@ -19,10 +19,10 @@ use Rattle.x_grammar.specs.AutomatonMoves.{run_element_stop, run_then_stop, run_
 use Rattle.x_grammar.specs.Unread.{inside, unread_name, unread_mark, unread_not, no_process}
 use Rattle.x_program.specs.Layout.{row_words}
 use Rattle.x_program.specs.Layout as layout
-use Rattle.front_read_expressions.specs.Reads.{Form, Reads, expression_form, closed, deepened, counted_row, tabled, row_of_last, row_of_two}
+use Rattle.front_read_expressions.specs.Reads.{Read, done, bad, Form, Reads, expression_form, closed, deepened, counted_row, tabled, row_of_last, row_of_two}
 use Rattle.front_read_expressions.specs.Parts.{table_one, table_two, table_three, closing, close_part}
-use Rattle.front_read_expressions.specs.declared.Read.{Read}
-use Rattle.front_read_expressions.specs.declared.Read.TheVariants.{Done, Bad}
+use Rattle.front_read_expressions.specs.declared.Extent.{Extent}
+use Rattle.front_read_expressions.specs.declared.Ungrammatical.{Ungrammatical}
 use Rattle.front_read_processes.specs.Forms.{process_form, list_form, Comments}
 
 -- a part, with the token that closes it
@@ -63,7 +63,7 @@ module _ (kinds values : List ℕ) (i n : ℕ) (t : List ℕ) (r : Read) (t' : L
 
 module _ (kinds values : List ℕ) (i n : ℕ) (t : List ℕ) where
   -- one token, or two
-  pub process_skip : (t' : List ℕ) → get_or kinds i 0 ≡ kind.skip → t' ≡ sets t (row_words * n) (row layout.skip 0 0 0) → Reads process_form kinds values i n t (Done (i + 1) (n + 1) 1 0) t'
+  pub process_skip : (t' : List ℕ) → get_or kinds i 0 ≡ kind.skip → t' ≡ sets t (row_words * n) (row layout.skip 0 0 0) → Reads process_form kinds values i n t (done (i + 1) (n + 1) 1 0) t'
   unfolding count_process rows_process
   process_skip t' e h =
       let l = inside kinds i kind.skip e (omega arith) in (
@@ -71,7 +71,7 @@ module _ (kinds values : List ℕ) (i n : ℕ) (t : List ℕ) where
         record { tree = skip; counted = refl; table = h; depths = refl; deepests = refl; comes = λ k. rw (unread_mark kinds values i kind.skip e (omega arith)) (run_skip _ k) },
       )
 
-  pub process_stop : (t' : List ℕ) → get_or kinds i 0 ≡ kind.stop → t' ≡ sets t (row_words * n) (row layout.stop 0 0 0) → Reads process_form kinds values i n t (Done (i + 1) (n + 1) 1 0) t'
+  pub process_stop : (t' : List ℕ) → get_or kinds i 0 ≡ kind.stop → t' ≡ sets t (row_words * n) (row layout.stop 0 0 0) → Reads process_form kinds values i n t (done (i + 1) (n + 1) 1 0) t'
   unfolding count_process rows_process
   process_stop t' e h =
       let l = inside kinds i kind.stop e (omega arith) in (
@@ -80,7 +80,7 @@ module _ (kinds values : List ℕ) (i n : ℕ) (t : List ℕ) where
       )
 
   pub process_empty : (t' : List ℕ) → get_or kinds i 0 ≡ kind.open_brace → get_or kinds (i + 1) 0 ≡ kind.close_brace → t' ≡ sets t (row_words * n) (row layout.skip 0 0 0)
-      → Reads process_form kinds values i n t (Done (i + 2) (n + 1) 1 0) t'
+      → Reads process_form kinds values i n t (done (i + 2) (n + 1) 1 0) t'
   unfolding count_process rows_process
   process_empty t' e f h =
       let l = inside kinds (i + 1) kind.close_brace f (omega arith) in (
@@ -99,7 +99,7 @@ module _ (kinds values : List ℕ) (i n : ℕ) (t : List ℕ) where
 
   pub process_none : i ≤ length kinds → (t' : List ℕ) → ¬ (get_or kinds i 0 ≡ kind.skip) → ¬ (get_or kinds i 0 ≡ kind.stop) → ¬ (get_or kinds i 0 ≡ kind.name)
       → ¬ (get_or kinds i 0 ≡ kind.open_brace) → ¬ (get_or kinds i 0 ≡ kind.if) → ¬ (get_or kinds i 0 ≡ kind.while) → ¬ (get_or kinds i 0 ≡ kind.comment)
-      → Reads process_form kinds values i n t (Bad i) t'
+      → Reads process_form kinds values i n t (bad i) t'
   process_none l t' a b c d e f g = (l, λ k. no_process kinds values i k a b c d e f g)
 
   -- a comment adds nothing
@@ -108,7 +108,7 @@ module _ (kinds values : List ℕ) (i n : ℕ) (t : List ℕ) where
 
   pub process_comment : (r : Read) (t' : List ℕ) → get_or kinds i 0 ≡ kind.comment → Reads process_form kinds values (i + 1) n t r t' → Reads process_form kinds values i n t r t'
   unfolding count_process rows_process
-  process_comment (Done j m p d) t' e h =
+  process_comment (Ok p) t' e h =
       let w = h.0 in (
         record { short = w.short; grew = w.grew; few = omega arith; shallow = omega arith; low = omega arith },
         record {
@@ -120,7 +120,7 @@ module _ (kinds values : List ℕ) (i n : ℕ) (t : List ℕ) where
           comes = λ k. into_comment e k ∙ h.1.comes (in_comment k) ∙ run_commented k _ _;
         },
       )
-  process_comment (Bad x) t' e h = (h.0, λ k. into_comment e k ∙ h.1 (in_comment k))
+  process_comment (Err x) t' e h = (h.0, λ k. into_comment e k ∙ h.1 (in_comment k))
 
   -- assignments
   into_assign : get_or kinds i 0 ≡ kind.name → get_or kinds (i + 1) 0 ≡ kind.becomes → (k : ProcessContext)
@@ -132,7 +132,7 @@ module _ (kinds values : List ℕ) (i n : ℕ) (t : List ℕ) where
   pub process_assign : (r : Read) (t' : List ℕ) → get_or kinds i 0 ≡ kind.name → get_or kinds (i + 1) 0 ≡ kind.becomes → Reads expression_form kinds values (i + 2) n t r t'
       → Reads process_form kinds values i n t (deepened (counted_row r) 0 0 1 0) (tabled t' r (row_of_last layout.assign i))
   unfolding count_process rows_process
-  process_assign (Done j m p d) t' e f h =
+  process_assign (Ok p) t' e f h =
       let w = h.0 in
       let c = h.1.counted in
       let x = h.1.depths in
@@ -141,16 +141,16 @@ module _ (kinds values : List ℕ) (i n : ℕ) (t : List ℕ) where
         record {
           tree = assign i h.1.tree;
           counted = omega arith;
-          table = rw c (table_one t t' (rows_expression h.1.tree n) _ n (count_expression h.1.tree) m (length_expression h.1.tree n) c h.1.table);
+          table = rw c (table_one t t' (rows_expression h.1.tree n) _ n (count_expression h.1.tree) p.rows (length_expression h.1.tree n) c h.1.table);
           depths = omega arith;
           deepests = omega arith;
           comes = λ k. into_assign e f k ∙ h.1.comes (in_assign i k) ∙ run_assigned k _ i _;
         },
       )
-  process_assign (Bad x) t' e f h = (h.0, λ k. into_assign e f k ∙ h.1 (in_assign i k))
+  process_assign (Err x) t' e f h = (h.0, λ k. into_assign e f k ∙ h.1 (in_assign i k))
 
   pub process_assign_stop : (t' : List ℕ) → get_or kinds i 0 ≡ kind.name → ¬ (get_or kinds (i + 1) 0 ≡ kind.becomes) → ¬ (get_or kinds (i + 1) 0 ≡ kind.open_subscript)
-      → Reads process_form kinds values i n t (Bad (i + 1)) t'
+      → Reads process_form kinds values i n t (bad (i + 1)) t'
   process_assign_stop t' e z y =
       let l = inside kinds i kind.name e (omega arith) in (
         omega arith,
@@ -164,14 +164,14 @@ module _ (kinds values : List ℕ) (i n : ℕ) (t : List ℕ) where
         (run_target _ k i ∙ rw (unread_mark kinds values (i + 1) kind.open_subscript f (omega arith))
         (run_target_subscript _ k i ∙ ap (λ (x : ℕ). run (unread kinds values x) (need_expression (in_target i k))) (omega arith)))
 
-    pub element_bad : (x : ℕ) (t' : List ℕ) → Reads (target_form i) kinds values (i + 2) n t (Bad x) t' → Reads process_form kinds values i n t (Bad x) t'
+    pub element_bad : (x : Ungrammatical) (t' : List ℕ) → Reads (target_form i) kinds values (i + 2) n t (Err x) t' → Reads process_form kinds values i n t (Err x) t'
     element_bad x t' h = (h.0, λ k. into_target k ∙ h.1 k)
 
-    pub process_assign_element : (j m p d : ℕ) (t' : List ℕ) → Reads (target_form i) kinds values (i + 2) n t (Done j m p d) t' → (r : Read) (t'' : List ℕ)
-        → Reads expression_form kinds values j m t' r t''
-        → Reads process_form kinds values i n t (deepened (counted_row r) 0 (d + 1) 1 0) (tabled t'' r (row_of_two layout.assign_element i (m - 1)))
+    pub process_assign_element : (p : Extent) (t' : List ℕ) → Reads (target_form i) kinds values (i + 2) n t (Ok p) t' → (r : Read) (t'' : List ℕ)
+        → Reads expression_form kinds values p.next p.rows t' r t''
+        → Reads process_form kinds values i n t (deepened (counted_row r) 0 (p.deepest + 1) 1 0) (tabled t'' r (row_of_two layout.assign_element i (p.rows - 1)))
     unfolding count_process rows_process
-    process_assign_element j m p d t' h (Done k l a b) t'' g =
+    process_assign_element p t' h (Ok q) t'' g =
         let w = h.0 in
         let u = g.0 in
         let c = h.1.counted in
@@ -184,14 +184,14 @@ module _ (kinds values : List ℕ) (i n : ℕ) (t : List ℕ) where
             tree = assign_element i h.1.tree g.1.tree;
             counted = omega arith;
             table = rw (c, c')
-                (table_two t t' t'' (rows_expression h.1.tree n) (rows_expression g.1.tree m) _ n (count_expression h.1.tree) m (count_expression g.1.tree) l
-                (length_expression h.1.tree n) (length_expression g.1.tree m) c c' h.1.table g.1.table);
+                (table_two t t' t'' (rows_expression h.1.tree n) (rows_expression g.1.tree p.rows) _ n (count_expression h.1.tree) p.rows (count_expression g.1.tree) q.rows
+                (length_expression h.1.tree n) (length_expression g.1.tree p.rows) c c' h.1.table g.1.table);
             depths = omega arith;
             deepests = omega arith;
             comes = λ K. into_target K ∙ h.1.comes K ∙ g.1.comes (in_assign_element i h.1.tree K) ∙ run_element_assigned K _ i _ _;
           },
         )
-    process_assign_element j m p d t' h (Bad x) t'' g = (g.0, λ K. into_target K ∙ h.1.comes K ∙ g.1 (in_assign_element i h.1.tree K))
+    process_assign_element p t' h (Err x) t'' g = (g.0, λ K. into_target K ∙ h.1.comes K ∙ g.1 (in_assign_element i h.1.tree K))
 
   -- braces
   into_braces : get_or kinds i 0 ≡ kind.open_brace → ¬ (get_or kinds (i + 1) 0 ≡ kind.close_brace) → (k : ProcessContext)
@@ -201,7 +201,7 @@ module _ (kinds values : List ℕ) (i n : ℕ) (t : List ℕ) where
   pub process_braces : (r : Read) (t' : List ℕ) → get_or kinds i 0 ≡ kind.open_brace → ¬ (get_or kinds (i + 1) 0 ≡ kind.close_brace) → Reads list_form kinds values (i + 1) n t r t'
       → Reads process_form kinds values i n t (deepened r 0 0 1 0) t'
   unfolding count_process rows_process
-  process_braces (Done j m p d) t' e z h =
+  process_braces (Ok p) t' e z h =
       let w = h.0 in
       let x = h.1.depths in
       let y = h.1.deepests in (
@@ -209,17 +209,17 @@ module _ (kinds values : List ℕ) (i n : ℕ) (t : List ℕ) where
         record
             { tree = braces h.1.tree; counted = h.1.counted; table = h.1.table; depths = omega arith; deepests = omega arith; comes = λ k. into_braces e z k ∙ h.1.comes (opened k) },
       )
-  process_braces (Bad x) t' e z h = (h.0, λ k. into_braces e z k ∙ h.1 (opened k))
+  process_braces (Err x) t' e z h = (h.0, λ k. into_braces e z k ∙ h.1 (opened k))
 
-  pub list_bad : (x : ℕ) (t' : List ℕ) → Reads process_form kinds values i n t (Bad x) t' → Reads list_form kinds values i n t (Bad x) t'
+  pub list_bad : (x : Ungrammatical) (t' : List ℕ) → Reads process_form kinds values i n t (Err x) t' → Reads list_form kinds values i n t (Err x) t'
   list_bad x t' h = (h.0, λ k. h.1 (in_braces k))
 
-  module _ (j m p d : ℕ) (t' : List ℕ) (h : Reads process_form kinds values i n t (Done j m p d) t') where
-    pub list_last : get_or kinds j 0 ≡ kind.close_brace → Reads list_form kinds values i n t (Done (j + 1) m p d) t'
+  module _ (p : Extent) (t' : List ℕ) (h : Reads process_form kinds values i n t (Ok p) t') where
+    pub list_last : get_or kinds p.next 0 ≡ kind.close_brace → Reads list_form kinds values i n t (done (p.next + 1) p.rows p.depth p.deepest) t'
     unfolding count_processes rows_processes
     list_last e =
         let w = h.0 in
-        let l = inside kinds j kind.close_brace e (omega arith) in (
+        let l = inside kinds p.next kind.close_brace e (omega arith) in (
           record { short = omega arith; grew = w.grew; few = omega arith; shallow = omega arith; low = omega arith },
           record {
             tree = only h.1.tree;
@@ -227,21 +227,21 @@ module _ (kinds values : List ℕ) (i n : ℕ) (t : List ℕ) where
             table = h.1.table;
             depths = h.1.depths;
             deepests = h.1.deepests;
-            comes = λ k. h.1.comes (in_braces k) ∙ rw (unread_mark kinds values j kind.close_brace e (omega arith)) (run_close _ k _);
+            comes = λ k. h.1.comes (in_braces k) ∙ rw (unread_mark kinds values p.next kind.close_brace e (omega arith)) (run_close _ k _);
           },
         )
 
-    pub list_stop : ¬ (get_or kinds j 0 ≡ kind.semicolon) → ¬ (get_or kinds j 0 ≡ kind.close_brace) → Reads list_form kinds values i n t (Bad j) t'
+    pub list_stop : ¬ (get_or kinds p.next 0 ≡ kind.semicolon) → ¬ (get_or kinds p.next 0 ≡ kind.close_brace) → Reads list_form kinds values i n t (bad p.next) t'
     list_stop a b = (
       h.0.short,
       λ k.
-          h.1.comes (in_braces k) ∙ run_list_stop h.1.tree k _ (unread_not kinds values j kind.semicolon (omega arith) a) (unread_not kinds values j kind.close_brace (omega arith) b),
+          h.1.comes (in_braces k) ∙ run_list_stop h.1.tree k _ (unread_not kinds values p.next kind.semicolon (omega arith) a) (unread_not kinds values p.next kind.close_brace (omega arith) b),
     )
 
-    pub list_more : (r : Read) (t'' : List ℕ) → get_or kinds j 0 ≡ kind.semicolon → Reads list_form kinds values (j + 1) m t' r t''
-        → Reads list_form kinds values i n t (deepened (counted_row r) p d 0 0) (tabled t'' r (row_of_last layout.sequence (m - 1)))
+    pub list_more : (r : Read) (t'' : List ℕ) → get_or kinds p.next 0 ≡ kind.semicolon → Reads list_form kinds values (p.next + 1) p.rows t' r t''
+        → Reads list_form kinds values i n t (deepened (counted_row r) p.depth p.deepest 0 0) (tabled t'' r (row_of_last layout.sequence (p.rows - 1)))
     unfolding count_processes rows_processes
-    list_more (Done k l a b) t'' e g =
+    list_more (Ok q) t'' e g =
         let w = h.0 in
         let u = g.0 in
         let c = h.1.counted in
@@ -255,27 +255,27 @@ module _ (kinds values : List ℕ) (i n : ℕ) (t : List ℕ) where
             tree = followed h.1.tree g.1.tree;
             counted = omega arith;
             table = rw (c, c')
-                (table_two t t' t'' (rows_process h.1.tree n) (rows_processes g.1.tree m) _ n (count_process h.1.tree) m (count_processes g.1.tree) l (length_process h.1.tree n)
-                (length_processes g.1.tree m) c c' h.1.table g.1.table);
+                (table_two t t' t'' (rows_process h.1.tree n) (rows_processes g.1.tree p.rows) _ n (count_process h.1.tree) p.rows (count_processes g.1.tree) q.rows (length_process h.1.tree n)
+                (length_processes g.1.tree p.rows) c c' h.1.table g.1.table);
             depths = omega arith;
             deepests = omega arith;
-            comes = λ K. h.1.comes (in_braces K) ∙ rw (unread_mark kinds values j kind.semicolon e (omega arith)) (run_semicolon _ K _ ∙ g.1.comes (also h.1.tree K));
+            comes = λ K. h.1.comes (in_braces K) ∙ rw (unread_mark kinds values p.next kind.semicolon e (omega arith)) (run_semicolon _ K _ ∙ g.1.comes (also h.1.tree K));
           },
         )
-    list_more (Bad x) t'' e g = (g.0, λ K. h.1.comes (in_braces K) ∙ rw (unread_mark kinds values j kind.semicolon e (omega arith)) (run_semicolon _ K _ ∙ g.1 (also h.1.tree K)))
+    list_more (Err x) t'' e g = (g.0, λ K. h.1.comes (in_braces K) ∙ rw (unread_mark kinds values p.next kind.semicolon e (omega arith)) (run_semicolon _ K _ ∙ g.1 (also h.1.tree K)))
 
   -- while
   module _ (is_while : get_or kinds i 0 ≡ kind.while) where
     into_while : (k : ProcessContext) → run (unread kinds values i) (need_process k) ≡ run (unread kinds values (i + 1)) (need_expression (in_while k))
     into_while k = rw (unread_mark kinds values i kind.while is_while (omega arith)) (run_while _ k)
 
-    pub while_bad : (x : ℕ) (t' : List ℕ) → Reads while_form kinds values (i + 1) n t (Bad x) t' → Reads process_form kinds values i n t (Bad x) t'
+    pub while_bad : (x : Ungrammatical) (t' : List ℕ) → Reads while_form kinds values (i + 1) n t (Err x) t' → Reads process_form kinds values i n t (Err x) t'
     while_bad x t' h = (h.0, λ k. into_while k ∙ h.1 k)
 
-    pub process_while : (j m p d : ℕ) (t' : List ℕ) → Reads while_form kinds values (i + 1) n t (Done j m p d) t' → (r : Read) (t'' : List ℕ)
-        → Reads process_form kinds values j m t' r t'' → Reads process_form kinds values i n t (deepened (counted_row r) 0 d 1 0) (tabled t'' r (row_of_last layout.while (m - 1)))
+    pub process_while : (p : Extent) (t' : List ℕ) → Reads while_form kinds values (i + 1) n t (Ok p) t' → (r : Read) (t'' : List ℕ)
+        → Reads process_form kinds values p.next p.rows t' r t'' → Reads process_form kinds values i n t (deepened (counted_row r) 0 p.deepest 1 0) (tabled t'' r (row_of_last layout.while (p.rows - 1)))
     unfolding count_process rows_process
-    process_while j m p d t' h (Done k l a b) t'' g =
+    process_while p t' h (Ok q) t'' g =
         let w = h.0 in
         let u = g.0 in
         let c = h.1.counted in
@@ -288,32 +288,32 @@ module _ (kinds values : List ℕ) (i n : ℕ) (t : List ℕ) where
             tree = while h.1.tree g.1.tree;
             counted = omega arith;
             table = rw (c, c')
-                (table_two t t' t'' (rows_expression h.1.tree n) (rows_process g.1.tree m) _ n (count_expression h.1.tree) m (count_process g.1.tree) l
-                (length_expression h.1.tree n) (length_process g.1.tree m) c c' h.1.table g.1.table);
+                (table_two t t' t'' (rows_expression h.1.tree n) (rows_process g.1.tree p.rows) _ n (count_expression h.1.tree) p.rows (count_process g.1.tree) q.rows
+                (length_expression h.1.tree n) (length_process g.1.tree p.rows) c c' h.1.table g.1.table);
             depths = omega arith;
             deepests = omega arith;
             comes = λ K. into_while K ∙ h.1.comes K ∙ g.1.comes (in_body h.1.tree K) ∙ run_repeated K _ _ _;
           },
         )
-    process_while j m p d t' h (Bad x) t'' g = (g.0, λ K. into_while K ∙ h.1.comes K ∙ g.1 (in_body h.1.tree K))
+    process_while p t' h (Err x) t'' g = (g.0, λ K. into_while K ∙ h.1.comes K ∙ g.1 (in_body h.1.tree K))
 
   -- if
   module _ (is_if : get_or kinds i 0 ≡ kind.if) where
     into_if : (k : ProcessContext) → run (unread kinds values i) (need_process k) ≡ run (unread kinds values (i + 1)) (need_expression (in_if k))
     into_if k = rw (unread_mark kinds values i kind.if is_if (omega arith)) (run_if _ k)
 
-    pub if_bad : (x : ℕ) (t' : List ℕ) → Reads if_form kinds values (i + 1) n t (Bad x) t' → Reads process_form kinds values i n t (Bad x) t'
+    pub if_bad : (x : Ungrammatical) (t' : List ℕ) → Reads if_form kinds values (i + 1) n t (Err x) t' → Reads process_form kinds values i n t (Err x) t'
     if_bad x t' h = (h.0, λ k. into_if k ∙ h.1 k)
 
-    module _ (j m p d : ℕ) (t₁ : List ℕ) (h : Reads if_form kinds values (i + 1) n t (Done j m p d) t₁) where
-      pub then_bad : (x : ℕ) (t₂ : List ℕ) → Reads (then_form h.1.tree) kinds values j m t₁ (Bad x) t₂ → Reads process_form kinds values i n t (Bad x) t₂
+    module _ (p : Extent) (t₁ : List ℕ) (h : Reads if_form kinds values (i + 1) n t (Ok p) t₁) where
+      pub then_bad : (x : Ungrammatical) (t₂ : List ℕ) → Reads (then_form h.1.tree) kinds values p.next p.rows t₁ (Err x) t₂ → Reads process_form kinds values i n t (Err x) t₂
       then_bad x t₂ g = (g.0, λ k. into_if k ∙ h.1.comes k ∙ g.1 k)
 
-      pub process_if : (k l p₁ d₁ : ℕ) (t₂ : List ℕ) → Reads (then_form h.1.tree) kinds values j m t₁ (Done k l p₁ d₁) t₂ → (r : Read) (t₃ : List ℕ)
-          → Reads process_form kinds values k l t₂ r t₃
-          → Reads process_form kinds values i n t (deepened (counted_row r) p₁ (max d d₁) 1 0) (tabled t₃ r (row_of_two layout.if (m - 1) (l - 1)))
+      pub process_if : (q : Extent) (t₂ : List ℕ) → Reads (then_form h.1.tree) kinds values p.next p.rows t₁ (Ok q) t₂ → (r : Read) (t₃ : List ℕ)
+          → Reads process_form kinds values q.next q.rows t₂ r t₃
+          → Reads process_form kinds values i n t (deepened (counted_row r) q.depth (max p.deepest q.deepest) 1 0) (tabled t₃ r (row_of_two layout.if (p.rows - 1) (q.rows - 1)))
       unfolding count_process rows_process
-      process_if k l p₁ d₁ t₂ g (Done a b p₂ d₂) t₃ z =
+      process_if q t₂ g (Ok s) t₃ z =
           let w = h.0 in
           let u = g.0 in
           let v = z.0 in
@@ -330,15 +330,15 @@ module _ (kinds values : List ℕ) (i n : ℕ) (t : List ℕ) where
               tree = conditional h.1.tree g.1.tree z.1.tree;
               counted = omega arith;
               table = rw (c1, c2, c3)
-                  (table_three t t₁ t₂ t₃ (rows_expression h.1.tree n) (rows_process g.1.tree m) (rows_process z.1.tree l) _ n (count_expression h.1.tree) m
-                  (count_process g.1.tree) l (count_process z.1.tree) b (length_expression h.1.tree n) (length_process g.1.tree m) (length_process z.1.tree l) c1 c2 c3
+                  (table_three t t₁ t₂ t₃ (rows_expression h.1.tree n) (rows_process g.1.tree p.rows) (rows_process z.1.tree q.rows) _ n (count_expression h.1.tree) p.rows
+                  (count_process g.1.tree) q.rows (count_process z.1.tree) s.rows (length_expression h.1.tree n) (length_process g.1.tree p.rows) (length_process z.1.tree q.rows) c1 c2 c3
                   h.1.table g.1.table z.1.table);
               depths = omega arith;
               deepests = omega arith;
               comes = λ K. into_if K ∙ h.1.comes K ∙ g.1.comes K ∙ z.1.comes (in_else h.1.tree g.1.tree K) ∙ run_conditional K _ _ _ _;
             },
           )
-      process_if k l p₁ d₁ t₂ g (Bad x) t₃ z = (z.0, λ K. into_if K ∙ h.1.comes K ∙ g.1.comes K ∙ z.1 (in_else h.1.tree g.1.tree K))
+      process_if q t₂ g (Err x) t₃ z = (z.0, λ K. into_if K ∙ h.1.comes K ∙ g.1.comes K ∙ z.1 (in_else h.1.tree g.1.tree K))
 
 -- any number of comments adds nothing
 pub comments_none : (kinds : List ℕ) (i : ℕ) → i ≤ length kinds → Comments kinds i i

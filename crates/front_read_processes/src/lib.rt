@@ -8,7 +8,7 @@ ghost use Rattle.front_read_processes.specs.Forms.{process_form, list_form, Comm
 ghost use Rattle.front_read_processes.specs.Lists.{Kept, joints};
 
 use front_read_expressions::{
-    Read, add_row, add_row_of_two, close, deepen, expression, kind_at, larger, put,
+    Extent, Ungrammatical, add_row, add_row_of_two, close, expression, kind_at, put,
 };
 use x_program::row;
 use x_spelling::kind;
@@ -20,37 +20,44 @@ fn element_assignment(
     table: &mut [u32; 4096],
     n: usize,
     i: usize,
-) -> Read
+) -> Result<Extent, Ungrammatical>
     requires { (Fit kinds.now values.now n i) × (get_or kinds.now i 0 ≡ tokens.name) × (get_or kinds.now (i + 1) 0 ≡ tokens.open_subscript) }
     ensures { Reads process_form kinds.now values.now i n table.old result table.new }
 {
-    let e = expression(kinds, values, table, n, i + 2);
-    let s = close(kinds, e, kind::CLOSE_SUBSCRIPT);
-    match close(kinds, s, kind::BECOMES) {
-        Read::Bad(x) => Read::Bad(x),
-        Read::Done(j, m, p, d) => {
-            let v = expression(kinds, values, table, m, j);
-            let r = add_row_of_two(table, v, row::ASSIGN_ELEMENT, i as u32, (m - 1) as u32);
-            deepen(r, 0, d + 1, 1, 0)
-        }
-    }
+    let e = expression(kinds, values, table, n, i + 2)?;
+    let subscript = close(kinds, e, kind::CLOSE_SUBSCRIPT)?;
+    let target = close(kinds, subscript, kind::BECOMES)?;
+    let value = expression(kinds, values, table, target.rows, target.next)?;
+    let whole = add_row_of_two(
+        table,
+        value,
+        row::ASSIGN_ELEMENT,
+        i as u32,
+        (target.rows - 1) as u32,
+    );
+    Ok(whole.deepen(0, target.deepest + 1, 1, 0))
 }
 
 // An assignment to the name at token i.
-fn assignment(kinds: &[u8], values: &[u32], table: &mut [u32; 4096], n: usize, i: usize) -> Read
+fn assignment(
+    kinds: &[u8],
+    values: &[u32],
+    table: &mut [u32; 4096],
+    n: usize,
+    i: usize,
+) -> Result<Extent, Ungrammatical>
     requires { (Fit kinds.now values.now n i) × (get_or kinds.now i 0 ≡ tokens.name) }
     ensures { Reads process_form kinds.now values.now i n table.old result table.new }
 {
-    let k = kind_at(kinds, i + 1);
-    if k == kind::BECOMES {
-        let e = expression(kinds, values, table, n, i + 2);
-        let r = add_row(table, e, row::ASSIGN, i as u32);
-        return deepen(r, 0, 0, 1, 0);
+    match kind_at(kinds, i + 1) {
+        kind::BECOMES => {
+            let value = expression(kinds, values, table, n, i + 2)?;
+            let whole = add_row(table, value, row::ASSIGN, i as u32);
+            Ok(whole.deepen(0, 0, 1, 0))
+        }
+        kind::OPEN_SUBSCRIPT => element_assignment(kinds, values, table, n, i),
+        _ => Err(Ungrammatical { token: i + 1 }),
     }
-    if k == kind::OPEN_SUBSCRIPT {
-        return element_assignment(kinds, values, table, n, i);
-    }
-    Read::Bad(i + 1)
 }
 
 // The first token from i on that is no comment.
@@ -58,11 +65,12 @@ fn past_comments(kinds: &[u8], i: usize) -> usize
     requires { i ≤ length kinds.now }
     ensures { (Comments kinds.now i result) × (get_or kinds.now result 0 ≡ tokens.comment → ⊥) }
 {
-    let mut j = i;
-    while kind_at(kinds, j) == kind::COMMENT {
-        j += 1;
+    for j in i..kinds.len() {
+        if kinds[j] != kind::COMMENT {
+            return j;
+        }
     }
-    j
+    kinds.len()
 }
 
 // Row number m goes to place k.
@@ -73,26 +81,18 @@ fn push(pending: &mut [u16], k: usize, m: u16)
     pending[k] = m;
 }
 
-fn wide(x: u16) -> u32
-    ensures { result ≡ x }
-{
-    x as u32
-}
-
 // The joints of the `count` processes whose last rows wait from `top` on, the last process first; m is the first free row.
 fn join(table: &mut [u32; 4096], pending: &[u16; 1024], top: usize, count: usize, m: usize)
     requires { (0 < m) × (m + count ≤ 1024) × (top + count ≤ 1024) }
     ensures { table.new ≡ joints table.old m pending.now top count }
 {
-    let mut c = count;
     let mut next = m;
-    while 0 < c {
-        c -= 1;
+    for c in (0..count).rev() {
         put(
             table,
             next,
             row::SEQUENCE,
-            wide(pending[top + c]),
+            u32::from(pending[top + c]),
             (next - 1) as u32,
             0,
         );
@@ -110,33 +110,32 @@ pub fn process(
     n: usize,
     i: usize,
     top: usize,
-) -> Read
+) -> Result<Extent, Ungrammatical>
     requires { (Fit kinds.now values.now n i) × (top ≤ i) }
     ensures { (Reads process_form kinds.now values.now i n table.old result table.new) × (Kept pending.old pending.new top) }
 {
     let j = past_comments(kinds, i);
-    let k = kind_at(kinds, j);
-    if k == kind::SKIP {
-        put(table, n, row::SKIP, 0, 0, 0);
-        return Read::Done(j + 1, n + 1, 1, 0);
+    let one_token = Extent {
+        next: j + 1,
+        rows: n + 1,
+        depth: 1,
+        deepest: 0,
+    };
+    match kind_at(kinds, j) {
+        kind::SKIP => {
+            put(table, n, row::SKIP, 0, 0, 0);
+            Ok(one_token)
+        }
+        kind::STOP => {
+            put(table, n, row::STOP, 0, 0, 0);
+            Ok(one_token)
+        }
+        kind::NAME => assignment(kinds, values, table, n, j),
+        kind::OPEN_BRACE => braces(kinds, values, table, pending, n, j, top),
+        kind::IF => conditional(kinds, values, table, pending, n, j, top),
+        kind::WHILE => repetition(kinds, values, table, pending, n, j, top),
+        _ => Err(Ungrammatical { token: j }),
     }
-    if k == kind::STOP {
-        put(table, n, row::STOP, 0, 0, 0);
-        return Read::Done(j + 1, n + 1, 1, 0);
-    }
-    if k == kind::NAME {
-        return assignment(kinds, values, table, n, j);
-    }
-    if k == kind::OPEN_BRACE {
-        return braces(kinds, values, table, pending, n, j, top);
-    }
-    if k == kind::IF {
-        return conditional(kinds, values, table, pending, n, j, top);
-    }
-    if k == kind::WHILE {
-        return repetition(kinds, values, table, pending, n, j, top);
-    }
-    Read::Bad(j)
 }
 
 // Braces, which open at token i.
@@ -149,16 +148,21 @@ fn braces(
     n: usize,
     i: usize,
     top: usize,
-) -> Read
+) -> Result<Extent, Ungrammatical>
     requires { (Fit kinds.now values.now n i) × (get_or kinds.now i 0 ≡ tokens.open_brace) × (top ≤ i) }
     ensures { (Reads process_form kinds.now values.now i n table.old result table.new) × (Kept pending.old pending.new top) }
 {
     if kind_at(kinds, i + 1) == kind::CLOSE_BRACE {
         put(table, n, row::SKIP, 0, 0, 0);
-        return Read::Done(i + 2, n + 1, 1, 0);
+        return Ok(Extent {
+            next: i + 2,
+            rows: n + 1,
+            depth: 1,
+            deepest: 0,
+        });
     }
-    let r = list(kinds, values, table, pending, n, i + 1, top);
-    deepen(r, 0, 0, 1, 0)
+    let processes = list(kinds, values, table, pending, n, i + 1, top)?;
+    Ok(processes.deepen(0, 0, 1, 0))
 }
 
 // The processes from token i on, up to the closing brace, grouped to the right: each one's last row waits in `pending` until its joint is written, after the list.
@@ -171,34 +175,51 @@ fn list(
     n: usize,
     i: usize,
     top: usize,
-) -> Read
+) -> Result<Extent, Ungrammatical>
     requires { (Fit kinds.now values.now n i) × (top ≤ i) }
     ensures { (Reads list_form kinds.now values.now i n table.old result table.new) × (Kept pending.old pending.new top) }
 {
-    let mut at = i;
-    let mut row = n;
+    // Up to the process that is read next; the joints of the processes so far are yet to be written.
+    let mut so_far = Extent {
+        next: i,
+        rows: n,
+        depth: 0,
+        deepest: 0,
+    };
     let mut count: usize = 0;
-    let mut depth: usize = 0;
-    let mut deepest: usize = 0;
     loop {
-        match process(kinds, values, table, pending, row, at, top + count) {
-            Read::Bad(x) => return Read::Bad(x),
-            Read::Done(j, m, p, d) => {
-                depth = larger(depth, p);
-                deepest = larger(deepest, d);
-                let k = kind_at(kinds, j);
-                if k == kind::CLOSE_BRACE {
-                    join(table, pending, top, count, m);
-                    return Read::Done(j + 1, m + count, depth, deepest);
-                }
-                if k != kind::SEMICOLON {
-                    return Read::Bad(j);
-                }
-                push(pending, top + count, (m - 1) as u16);
-                count += 1;
-                at = j + 1;
-                row = m;
+        let part = process(
+            kinds,
+            values,
+            table,
+            pending,
+            so_far.rows,
+            so_far.next,
+            top + count,
+        )?;
+        let depth = so_far.depth.max(part.depth);
+        let deepest = so_far.deepest.max(part.deepest);
+        match kind_at(kinds, part.next) {
+            kind::CLOSE_BRACE => {
+                join(table, pending, top, count, part.rows);
+                return Ok(Extent {
+                    next: part.next + 1,
+                    rows: part.rows + count,
+                    depth,
+                    deepest,
+                });
             }
+            kind::SEMICOLON => {
+                push(pending, top + count, (part.rows - 1) as u16);
+                count += 1;
+                so_far = Extent {
+                    next: part.next + 1,
+                    rows: part.rows,
+                    depth,
+                    deepest,
+                };
+            }
+            _ => return Err(Ungrammatical { token: part.next }),
         }
     }
 }
@@ -213,25 +234,31 @@ fn conditional(
     n: usize,
     i: usize,
     top: usize,
-) -> Read
+) -> Result<Extent, Ungrammatical>
     requires { (Fit kinds.now values.now n i) × (get_or kinds.now i 0 ≡ tokens.if) × (top ≤ i) }
     ensures { (Reads process_form kinds.now values.now i n table.old result table.new) × (Kept pending.old pending.new top) }
 {
-    let e = expression(kinds, values, table, n, i + 1);
-    match close(kinds, e, kind::THEN) {
-        Read::Bad(x) => Read::Bad(x),
-        Read::Done(j, m, _, d) => {
-            let t = process(kinds, values, table, pending, m, j, top);
-            match close(kinds, t, kind::ELSE) {
-                Read::Bad(x) => Read::Bad(x),
-                Read::Done(k, l, p, f) => {
-                    let q = process(kinds, values, table, pending, l, k, top);
-                    let r = add_row_of_two(table, q, row::IF, (m - 1) as u32, (l - 1) as u32);
-                    deepen(r, p, larger(d, f), 1, 0)
-                }
-            }
-        }
-    }
+    let e = expression(kinds, values, table, n, i + 1)?;
+    let condition = close(kinds, e, kind::THEN)?;
+    let p = process(
+        kinds,
+        values,
+        table,
+        pending,
+        condition.rows,
+        condition.next,
+        top,
+    )?;
+    let then = close(kinds, p, kind::ELSE)?;
+    let other = process(kinds, values, table, pending, then.rows, then.next, top)?;
+    let whole = add_row_of_two(
+        table,
+        other,
+        row::IF,
+        (condition.rows - 1) as u32,
+        (then.rows - 1) as u32,
+    );
+    Ok(whole.deepen(then.depth, condition.deepest.max(then.deepest), 1, 0))
 }
 
 // `while e do p` at token i.
@@ -244,17 +271,21 @@ fn repetition(
     n: usize,
     i: usize,
     top: usize,
-) -> Read
+) -> Result<Extent, Ungrammatical>
     requires { (Fit kinds.now values.now n i) × (get_or kinds.now i 0 ≡ tokens.while) × (top ≤ i) }
     ensures { (Reads process_form kinds.now values.now i n table.old result table.new) × (Kept pending.old pending.new top) }
 {
-    let e = expression(kinds, values, table, n, i + 1);
-    match close(kinds, e, kind::DO) {
-        Read::Bad(x) => Read::Bad(x),
-        Read::Done(j, m, _, d) => {
-            let p = process(kinds, values, table, pending, m, j, top);
-            let r = add_row(table, p, row::WHILE, (m - 1) as u32);
-            deepen(r, 0, d, 1, 0)
-        }
-    }
+    let e = expression(kinds, values, table, n, i + 1)?;
+    let condition = close(kinds, e, kind::DO)?;
+    let repeated = process(
+        kinds,
+        values,
+        table,
+        pending,
+        condition.rows,
+        condition.next,
+        top,
+    )?;
+    let whole = add_row(table, repeated, row::WHILE, (condition.rows - 1) as u32);
+    Ok(whole.deepen(0, condition.deepest, 1, 0))
 }

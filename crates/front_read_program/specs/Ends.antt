@@ -1,5 +1,5 @@
 -- The reading of a whole program, from what the readers of its parts say. Laws; rests on Answer, SpecificationReaders and the readers of processes.
-use Rattle.std.specs.Prelude.{◌≡◌, length}
+use Rattle.std.specs.Prelude.{◌≡◌, length, Ok, Err}
 use Rattle.std.proofs.Math.Path.{refl}
 use Rattle.std.proofs.Common.{sym, ap, subst, ◌∙◌, arith}
 use mathlib.Core.List.{List, [], ◌∷◌}
@@ -15,11 +15,11 @@ use Rattle.x_grammar.specs.SpecificationMoves.{after_comments, run_in_comments, 
 use Rattle.x_grammar.specs.AutomatonSound.{before_front, comments, in_comments_text, in_comments_fine, front_text, Says, says}
 use Rattle.x_grammar.specs.Unread.{unread_cons, unread_end, length_unread}
 use Rattle.front_read_expressions.specs.Reads.{Reads}
-use Rattle.front_read_expressions.specs.declared.Read.TheVariants.{Done, Bad}
+use Rattle.front_read_expressions.specs.declared.Extent.{Extent}
+use Rattle.front_read_expressions.specs.declared.Ungrammatical.{Ungrammatical}
 use Rattle.front_read_processes.specs.Forms.{process_form}
-use Rattle.front_read_program.specs.Answer.{answer, Written}
+use Rattle.front_read_program.specs.Answer.{refused_at, answer, Written}
 use Rattle.front_read_program.specs.SpecificationReaders.{Stops, Arrives, Fronts}
-use Rattle.front_read_program.specs.declared.Answer.TheVariants as variant
 
 -- comments add no rows and no depth, and a token each
 module _ where
@@ -85,35 +85,35 @@ reads_run w = refl
 module _ (kinds values : List ℕ) where
   -- a refusal
   pub program_refused : (x : ℕ) (t t' : List ℕ) → x ≤ length kinds → reads (unread kinds values 0) ≡ refused (unread kinds values x)
-      → (variant.Refused x ≡ answer (length kinds) (reads (unread kinds values 0))) × Written (reads (unread kinds values 0)) t t'
-  program_refused x t t' l h = rw h (ap variant.Refused (let z = length_unread kinds values x in omega arith), tt)
+      → (refused_at x ≡ answer (length kinds) (reads (unread kinds values 0))) × Written (reads (unread kinds values 0)) t t'
+  program_refused x t t' l h = rw h (ap refused_at (let z = length_unread kinds values x in omega arith), tt)
 
-  pub program_front : (x : ℕ) (t t' : List ℕ) → Stops kinds values 0 x → (variant.Refused x ≡ answer (length kinds) (reads (unread kinds values 0))) × Written (reads (unread kinds values 0)) t t'
+  pub program_front : (x : ℕ) (t t' : List ℕ) → Stops kinds values 0 x → (refused_at x ≡ answer (length kinds) (reads (unread kinds values 0))) × Written (reads (unread kinds values 0)) t t'
   unfolding reads
   program_front x t t' h = program_refused x t t' h.inside (h.stops [] 0)
 
   module _ (s i n : ℕ) (f : Fronts kinds values 0 0 0 s i n) (t : List ℕ) where
-    pub program_bad : (x : ℕ) (t' : List ℕ) → Reads process_form kinds values i n t (Bad x) t'
-        → (variant.Refused x ≡ answer (length kinds) (reads (unread kinds values 0))) × Written (reads (unread kinds values 0)) t t'
+    pub program_bad : (x : Ungrammatical) (t' : List ℕ) → Reads process_form kinds values i n t (Err x) t'
+        → (refused_at x.token ≡ answer (length kinds) (reads (unread kinds values 0))) × Written (reads (unread kinds values 0)) t t'
     unfolding reads
-    program_bad x t' h = let a = f.arrives [] 0 refl in program_refused x t t' h.0 (a.comes ∙ h.1 (in_comments a.comments (top a.specifications)))
+    program_bad x t' h = let a = f.arrives [] 0 refl in program_refused x.token t t' h.0 (a.comes ∙ h.1 (in_comments a.comments (top a.specifications)))
 
-    module _ (j m p d : ℕ) (t' : List ℕ) (h : Reads process_form kinds values i n t (Done j m p d) t') where
+    module _ (p : Extent) (t' : List ℕ) (h : Reads process_form kinds values i n t (Ok p) t') where
       comes_to : (a : Arrives kinds values 0 0 s i n [] 0)
-          → reads (unread kinds values 0) ≡ run (unread kinds values j) (have_process (after_comments a.comments h.1.tree) (top a.specifications))
+          → reads (unread kinds values 0) ≡ run (unread kinds values p.next) (have_process (after_comments a.comments h.1.tree) (top a.specifications))
       unfolding reads
       comes_to a = a.comes ∙ h.1.comes (in_comments a.comments (top a.specifications)) ∙ run_in_comments a.comments _ (top a.specifications) h.1.tree
 
-      pub program_left : j < length kinds → (variant.Refused j ≡ answer (length kinds) (reads (unread kinds values 0))) × Written (reads (unread kinds values 0)) t t'
-      program_left l = let a = f.arrives [] 0 refl in program_refused j t t' h.0.short (comes_to a ∙ rw (unread_cons kinds values j l) (run_left _ _ a.specifications _))
+      pub program_left : p.next < length kinds → (refused_at p.next ≡ answer (length kinds) (reads (unread kinds values 0))) × Written (reads (unread kinds values 0)) t t'
+      program_left l = let a = f.arrives [] 0 refl in program_refused p.next t t' h.0.short (comes_to a ∙ rw (unread_cons kinds values p.next l) (run_left _ _ a.specifications _))
 
-      pub program_done : length kinds ≤ j → (variant.Program s m p d ≡ answer (length kinds) (reads (unread kinds values 0))) × Written (reads (unread kinds values 0)) t t'
+      pub program_done : length kinds ≤ p.next → (Ok (record { start = s; rows = p.rows; depth = p.depth; deepest = p.deepest }) ≡ answer (length kinds) (reads (unread kinds values 0))) × Written (reads (unread kinds values 0)) t t'
       program_done l =
           let a = f.arrives [] 0 refl in
           let b = a.specifications in
           let c = a.comments in
           let q = h.1.tree in
-          let e : reads (unread kinds values 0) ≡ accepted (program (in_order b []) (after_comments c q)) = comes_to a ∙ rw (unread_end kinds values j l) (run_done b (after_comments c q)) in
+          let e : reads (unread kinds values 0) ≡ accepted (program (in_order b []) (after_comments c q)) = comes_to a ∙ rw (unread_end kinds values p.next l) (run_done b (after_comments c q)) in
           let o = declared_in_order b [] in
           let x = a.declared in
           let y = a.placed in
@@ -124,7 +124,7 @@ module _ (kinds values : List ℕ) where
           let v = count_comments c q in
           let first : declared_rows (in_order b []) ≡ n = omega arith in
           let start : s ≡ length kinds - length (text_process (after_comments c q) []) = omega arith in
-          let count : m ≡ declared_rows (in_order b []) + count_process (after_comments c q) = omega arith in
+          let count : p.rows ≡ declared_rows (in_order b []) + count_process (after_comments c q) = omega arith in
           rw e (
             rw (start, count, h.1.depths, h.1.deepests, ← depth_comments c q, ← deepest_comments c q),
             rw (first, rows_comments c q n) h.1.table,

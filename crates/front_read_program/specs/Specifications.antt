@@ -1,5 +1,5 @@
 -- What the readers of specifications answer, from the kinds of the tokens. Laws; rests on the automaton's moves through the specifications.
-use Rattle.std.specs.Prelude.{◌≡◌, refl, Bool, List, ◌∷◌, ◌⊎◌, ℕ, zero, suc, ◌+◌, ◌^◌, ◌<◌, ◌≤◌, eqb, length, get_or}
+use Rattle.std.specs.Prelude.{◌≡◌, refl, Bool, List, ◌∷◌, ◌⊎◌, ℕ, zero, suc, ◌+◌, ◌^◌, ◌<◌, ◌≤◌, eqb, length, get_or, Result, Ok, Err}
 use Rattle.std.proofs.Common.{ap, ◌∙◌, inl, inr, arith, eqb-true}
 use Rattle.std.proofs.lemmas.Bool.{eqb-false}
 use Rattle.arm_word.specs.Choice.{pick}
@@ -16,9 +16,8 @@ use Rattle.x_grammar.specs.SpecificationMoves.{semicolon_stop}
 use Rattle.x_grammar.specs.AutomatonComplete.{all_constant_array, all_constant_val}
 use Rattle.x_grammar.specs.Unread.{inside, unread_number, unread_name, unread_mark, unread_not, unread_no_name, unread_no_constant}
 use Rattle.front_read_program.specs.SpecificationReaders.{Specifies, Stops, ReadsSpecification, ended, ReadsFront}
-use Rattle.front_read_program.specs.declared.Specified.TheVariants as specified
-use Rattle.front_read_program.specs.declared.Front as front_enum
-use Rattle.front_read_program.specs.declared.Front.TheVariants as front
+use Rattle.front_read_expressions.specs.declared.Ungrammatical.{Ungrammatical}
+use Rattle.front_read_program.specs.declared.Front.{Front}
 
 -- the state that a token of some class leads to
 module _ (kinds values : List ℕ) (k : ℕ) where
@@ -61,7 +60,7 @@ pub ended_part : (kinds values : List ℕ) (i j d : ℕ) (s : Specification) →
     → ((b : List Specification) (c : ℕ) → run (unread kinds values i) (at_front b c) ≡ run (unread kinds values j) (specifying b c (whole s)))
     → ReadsSpecification kinds values i (ended kinds j d)
 ended_part kinds values i j d s far short e h =
-    by_test (λ (b : Bool). ReadsSpecification kinds values i (pick b (specified.Next (j + 1) d) (specified.Bad j))) (eqb (get_or kinds j 0) kind.semicolon)
+    by_test (λ (b : Bool). ReadsSpecification kinds values i (pick b (Ok (record { next = j + 1; rows = d })) (Err (record { token = j })))) (eqb (get_or kinds j 0) kind.semicolon)
     (λ q. let f = eqb-true (get_or kinds j 0) kind.semicolon q in
     let l = inside kinds j kind.semicolon f (omega arith) in
     record {
@@ -191,7 +190,7 @@ declared_commented (suc c) s = declared_commented c (commented s)
 
 module _ (kinds values : List ℕ) (i n start : ℕ) where
   pub front_process : i ≤ length kinds → ¬ (get_or kinds i 0 ≡ kind.comment) → ¬ (get_or kinds i 0 ≡ kind.var) → ¬ (get_or kinds i 0 ≡ kind.array) → ¬ (get_or kinds i 0 ≡ kind.val)
-      → ReadsFront kinds values i n start (front.Process start i n)
+      → ReadsFront kinds values i n start (Ok (record { start = start; process = i; rows = n }))
   front_process l w x y z = record {
     short = l;
     few = omega arith;
@@ -208,18 +207,18 @@ module _ (kinds values : List ℕ) (i n start : ℕ) where
   at_comment : get_or kinds i 0 ≡ kind.comment → (b : List Specification) (c : ℕ) → run (unread kinds values i) (at_front b c) ≡ run (unread kinds values (i + 1)) (at_front b (suc c))
   at_comment e b c = by_mark kinds values i (at_front b c) _ kind.comment e (omega arith) (run_front_comment b c)
 
-  pub front_comment : (r : front_enum.Front) → get_or kinds i 0 ≡ kind.comment → ReadsFront kinds values (i + 1) n start r → ReadsFront kinds values i n start r
-  front_comment (front.Process s j m) e h =
+  pub front_comment : (r : Result Front Ungrammatical) → get_or kinds i 0 ≡ kind.comment → ReadsFront kinds values (i + 1) n start r → ReadsFront kinds values i n start r
+  front_comment (Ok f) e h =
       record {
         short = h.short;
         few = let w = h.few in omega arith;
         arrives = λ b c q. let a = h.arrives b (suc c) (omega arith) in
             record { specifications = a.specifications; comments = a.comments; comes = at_comment e b c ∙ a.comes; declared = a.declared; placed = a.placed };
       }
-  front_comment (front.Bad x) e h = record { inside = h.inside; stops = λ b c. at_comment e b c ∙ h.stops b (suc c) }
+  front_comment (Err x) e h = record { inside = h.inside; stops = λ b c. at_comment e b c ∙ h.stops b (suc c) }
 
-  pub front_specification : (j d : ℕ) → Specifies kinds values i j d → (r : front_enum.Front) → ReadsFront kinds values j (n + d) j r → ReadsFront kinds values i n start r
-  front_specification j d g (front.Process s k m) h =
+  pub front_specification : (j d : ℕ) → Specifies kinds values i j d → (r : Result Front Ungrammatical) → ReadsFront kinds values j (n + d) j r → ReadsFront kinds values i n start r
+  front_specification j d g (Ok f) h =
       record {
         short = h.short;
         few = let w = h.few in let u = g.far in omega arith;
@@ -229,4 +228,4 @@ module _ (kinds values : List ℕ) (i n start : ℕ) where
             let z = g.declares in
             record { specifications = a.specifications; comments = a.comments; comes = g.comes b c ∙ a.comes; declared = omega arith; placed = a.placed };
       }
-  front_specification j d g (front.Bad x) h = record { inside = h.inside; stops = λ b c. g.comes b c ∙ h.stops (comments_before c g.tree ∷ b) 0 }
+  front_specification j d g (Err x) h = record { inside = h.inside; stops = λ b c. g.comes b c ∙ h.stops (comments_before c g.tree ∷ b) 0 }

@@ -8,13 +8,12 @@ use Rattle.x_grammar.specs.Automaton.{Move, go, none, step}
 use Rattle.x_grammar.specs.Automaton.{onward, run, reads}
 use Rattle.x_grammar.specs.TokenArrays.{token_of, unread}
 use Rattle.x_grammar.specs.Unread.{unread_cons, length_unread}
-use Rattle.front_recognizer.specs.declared.Recognized.TheVariants as answer
 use Rattle.front_recognizer.specs.Modes as mode
 use Rattle.front_recognizer.specs.Pushdown.{Configuration, advance, doing, deep_by}
 use Rattle.front_recognizer.specs.Follows.{Agrees, follows}
 use Rattle.front_recognizer.specs.Levels.{Levels}
 use Rattle.front_recognizer.proofs.Levels.{levels_next}
-use Rattle.front_recognizer.specs.Recognized.{not_refused, Says, Stands}
+use Rattle.front_recognizer.specs.Recognized.{not_refused, Says, refused_at, Stands}
 
 module _ (kinds values : List ℕ) where
   module _ (i : ℕ) (b : i < length kinds) (c c' : Configuration) (deep : Bool) (h : Stands kinds values i c deep) (e : c' ≡ advance c (get_or kinds i 0)) where
@@ -30,10 +29,10 @@ module _ (kinds values : List ℕ) where
         ∙ ap (λ (m : Move). onward m (t ∷ unread kinds values (i + 1)) (run (unread kinds values (i + 1)))) q
         ∙ ap (λ (w : List Token). onward m w (run (unread kinds values (i + 1)))) (sym (unread_cons kinds values i b))
 
-    pub stands_bad : c'.mode ≡ mode.refused → Says (length kinds) (reads (unread kinds values 0)) (answer.Bad i)
+    pub stands_bad : c'.mode ≡ mode.refused → Says (length kinds) (reads (unread kinds values 0)) (refused_at i)
     stands_bad z = by (step h.state t) refl onto
       where
-        by : (m : Move) → step h.state t ≡ m → Agrees m (doing c (get_or kinds i 0)) c.stack → Says (length kinds) (reads (unread kinds values 0)) (answer.Bad i)
+        by : (m : Move) → step h.state t ≡ m → Agrees m (doing c (get_or kinds i 0)) c.stack → Says (length kinds) (reads (unread kinds values 0)) (refused_at i)
         by none q g = (unread kinds values i, after none q, omega (arith, b, length_unread kinds values i))
         by (go s) q g = absurd (not_refused s (ap (λ (d : Configuration). d.mode) (sym g ∙ sym e) ∙ z))
 

@@ -1,6 +1,6 @@
 -- The grammar's automaton without its trees: a pushdown automaton, whose stack has a frame for each part that a closing token must end. Definitions.
 -- A level counts what the hole of a tree stands in, as depth does; the recognizer counts up to the limit of depth. Rests on the kinds of tokens and the automaton's states.
-use Rattle.std.specs.Prelude.{Bool, true, false, List, [], ◌∷◌, ℕ, zero, suc, ◌+◌, ◌-◌, ◌*◌, eqb, ltb, length, get_or}
+use Rattle.std.specs.Prelude.{Bool, true, false, List, [], ◌∷◌, ℕ, zero, suc, ◌+◌, ◌-◌, ◌*◌, eqb, ltb, length, get_or, Option, None, Some}
 use Rattle.arm_word.specs.Choice.{pick}
 use Rattle.x_spelling.specs.Kinds as kind
 use Rattle.x_grammar.specs.Grammar.{is_monadic, is_diadic, is_associative}
@@ -175,17 +175,17 @@ configuration (have_expression e k) = at mode.have_operand after_monadic 0 (fram
 
 -- ── what a token does ──
 abbrev pub stay : ℕ → ℕ → ℕ → Action
-stay m o l = record { mode = m; operator = o; level = l; pops = false; pushed = no_frame }
+stay m o l = record { mode = m; operator = o; level = l; pops = false; pushed = None }
 
 abbrev pub leave : ℕ → ℕ → ℕ → Action
-leave m o l = record { mode = m; operator = o; level = l; pops = true; pushed = no_frame }
+leave m o l = record { mode = m; operator = o; level = l; pops = true; pushed = None }
 
 abbrev pub enter : ℕ → ℕ → ℕ → ℕ → ℕ → Action
-enter m l mark o below = record { mode = m; operator = 0; level = l; pops = false; pushed = frame mark o below }
+enter m l mark o below = record { mode = m; operator = 0; level = l; pops = false; pushed = Some (frame mark o below) }
 
 -- a condition of an if ends: its frame becomes that of the then part
 abbrev pub choose : ℕ → Action
-choose l = record { mode = mode.need_process; operator = 0; level = deeper l; pops = true; pushed = frame then_open 0 l }
+choose l = record { mode = mode.need_process; operator = 0; level = deeper l; pops = true; pushed = Some (frame then_open 0 l) }
 
 abbrev pub refuse : Action
 refuse = stay mode.refused 0 0
@@ -286,8 +286,9 @@ pop false s = s
 pop true [] = []
 pop true (f ∷ s) = s
 
-abbrev pub push : Frame → List Frame → List Frame
-push f s = pick (eqb f.mark nothing_open) s (f ∷ s)
+abbrev pub push : Option Frame → List Frame → List Frame
+push None s = s
+push (Some f) s = f ∷ s
 
 abbrev pub act : Action → List Frame → Configuration
 act a s = at a.mode a.operator a.level (push a.pushed (pop a.pops s))

@@ -1,5 +1,5 @@
 -- What the recognizer's answer says of the tokens, and why. Definitions and laws; rests on Follows and Levels.
-use Rattle.std.specs.Prelude.{◌≡◌, Bool, true, false, ℕ, ◌+◌, ◌<◌, ◌≤◌, max, length}
+use Rattle.std.specs.Prelude.{◌≡◌, Bool, true, false, ℕ, ◌+◌, ◌<◌, ◌≤◌, max, length, Result, Ok, Err}
 use Rattle.std.proofs.Math.Path.{refl, ap, subst}
 use Rattle.std.proofs.Common.{◌∙◌, arith}
 use mathlib.Core.List.{List, []}
@@ -12,8 +12,8 @@ use Rattle.x_grammar.specs.TokenArrays.{unread}
 use Rattle.x_grammar.specs.Unread.{unread_end}
 use Rattle.x_grammar.specs.TreeDepth.{depth, deepest, depth_limit}
 use Rattle.x_grammar.specs.Nesting.{Bounded}
-use Rattle.front_recognizer.specs.declared.Recognized.{Recognized}
-use Rattle.front_recognizer.specs.declared.Recognized.TheVariants as answer
+use Rattle.front_recognizer.specs.declared.Fault.{Fault}
+use Rattle.front_recognizer.specs.declared.Fault.TheVariants as fault
 use Rattle.front_recognizer.specs.Modes as mode
 use Rattle.front_recognizer.specs.Pushdown.{Configuration, at, no_operator, configuration, mode_partial, complete}
 use Rattle.front_recognizer.specs.Follows.{Ends, finishes}
@@ -46,13 +46,16 @@ not_refused (have_operand a c) e = omega (arith, e)
 not_refused (have_expression x c) e = omega (arith, e)
 
 -- the answer of n tokens that read as r
-abbrev pub Says : ℕ → Reading → Recognized → Type 0
-Says n r answer.Program = Bounded r
-Says n r answer.Deep = (p : Program) × (r ≡ accepted p) × (depth_limit < max (depth p) (deepest p))
-Says n r (answer.Bad x) = (u : List Token) × (r ≡ refused u) × (x + length u ≡ n)
+abbrev pub Says : ℕ → Reading → Result (Unit {0}) Fault → Type 0
+Says n r (Ok u) = Bounded r
+Says n r (Err fault.Deep) = (p : Program) × (r ≡ accepted p) × (depth_limit < max (depth p) (deepest p))
+Says n r (Err (fault.Ungrammatical x)) = (u : List Token) × (r ≡ refused u) × (x.token + length u ≡ n)
 
-abbrev pub ended : Bool → Bool → ℕ → Recognized
-ended complete deep n = pick complete (pick deep answer.Deep answer.Program) (answer.Bad n)
+abbrev pub refused_at : ℕ → Result (Unit {0}) Fault
+refused_at i = Err (fault.Ungrammatical (record { token = i }))
+
+abbrev pub ended : Bool → Bool → ℕ → Result (Unit {0}) Fault
+ended complete deep n = pick complete (pick deep (Err fault.Deep) (Ok tt)) (refused_at n)
 
 module _ (kinds values : List ℕ) where
   -- the automaton's state at token i is that of the configuration; its tree nests within the limit where no level reached that, and else is too deep

@@ -1,5 +1,5 @@
 -- The stack in the working table: a frame is a row. Definitions and laws; assume nothing.
-use Rattle.std.specs.Prelude.{◌≡◌, refl, Bool, true, false, List, [], ◌∷◌, ℕ, zero, suc, ◌+◌, ◌-◌, ◌*◌, ◌<◌, ◌≤◌, eqb, length, get_or, set}
+use Rattle.std.specs.Prelude.{◌≡◌, refl, Bool, true, false, List, [], ◌∷◌, ℕ, zero, suc, ◌+◌, ◌-◌, ◌*◌, ◌<◌, ◌≤◌, eqb, length, get_or, set, None, Some}
 use Rattle.std.proofs.Common.{ap, ◌∙◌, arith, add-one, length-set, get_or-set_same, get_or-set_other, ne_eqb, le-leb}
 use Rattle.std.proofs.lemmas.List.Edits.{sets}
 use Rattle.std.proofs.Math.Seq.{length-sets}
@@ -88,13 +88,12 @@ popped_low h true = omega arith
 popped_low h false = omega arith
 
 -- the stack after an action that pushes nothing, and after one that pushes
-pub act_kept : (t : List ℕ) (h : ℕ) (a : Action) → a.pushed.mark ≡ 0 → at a.mode a.operator a.level (frames t (popped h a.pops)) ≡ act a (frames t h)
+pub act_kept : (t : List ℕ) (h : ℕ) (a : Action) → a.pushed ≡ None → at a.mode a.operator a.level (frames t (popped h a.pops)) ≡ act a (frames t h)
 act_kept t h a e = rw (e, frames_popped t h a.pops)
 
-pub act_pushed : (t t' : List ℕ) (h n : ℕ) (a : Action) → ¬ (a.pushed.mark ≡ 0) → n ≡ popped h a.pops → length t ≡ 4096 → h < 1024
-    → t' ≡ sets t (row_words * n) (row a.pushed.mark a.pushed.operator a.pushed.level 0) → at a.mode a.operator a.level (frames t' (n + 1)) ≡ act a (frames t h)
-act_pushed t t' h n a z e l b s =
-    rw (s, frames_pushed t n a.pushed.mark a.pushed.operator a.pushed.level 0 (omega (arith, popped_low h a.pops)), ne_eqb a.pushed.mark 0 z, e, frames_popped t h a.pops)
+pub act_pushed : (t t' : List ℕ) (h n : ℕ) (a : Action) (f : Frame) → a.pushed ≡ Some f → n ≡ popped h a.pops → length t ≡ 4096 → h < 1024
+    → t' ≡ sets t (row_words * n) (row f.mark f.operator f.level 0) → at a.mode a.operator a.level (frames t' (n + 1)) ≡ act a (frames t h)
+act_pushed t t' h n a f z e l b s = rw (s, frames_pushed t n f.mark f.operator f.level 0 (omega (arith, popped_low h a.pops)), z, e, frames_popped t h a.pops)
 
 pub popped_fits : (h n : ℕ) (b : Bool) → n ≡ popped h b → h < 1024 → n ≤ h
 popped_fits h n b e l = omega (arith, popped_low h b)

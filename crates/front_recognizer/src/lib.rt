@@ -9,9 +9,9 @@ ghost use Rattle.x_grammar.specs.Automaton.{reads};
 ghost use Rattle.x_grammar.specs.TokenArrays.{unread};
 ghost use Rattle.front_recognizer.specs.Pushdown as rules;
 ghost use Rattle.front_recognizer.specs.Stack.{viewed};
-ghost use Rattle.front_recognizer.specs.Recognized.{Says, ended};
+ghost use Rattle.front_recognizer.specs.Recognized.{Says, refused_at, ended};
 
-use front_read_expressions::{is_diadic, is_monadic, put};
+use front_read_expressions::{Ungrammatical, is_diadic, is_monadic, put};
 use x_program::row;
 use x_spelling::kind;
 
@@ -39,14 +39,14 @@ pub struct Frame {
     pub level: u32,
 }
 
-// What a token does: the next mode, operator and level, whether a frame is popped, and the frame that is pushed (mark 0: none).
+// What a token does: the next mode, operator and level, whether a frame is popped, and which one is pushed.
 #[derive(Clone, Copy)]
 pub struct Action {
     pub mode: u8,
     pub operator: u32,
     pub level: u32,
     pub pops: bool,
-    pub pushed: Frame,
+    pub pushed: Option<Frame>,
 }
 
 // The automaton's control, and the number of frames in the table.
@@ -58,12 +58,11 @@ pub struct Control {
     pub height: usize,
 }
 
-// A program; a program that is too deep; or the token that no program continues with.
+// What the tokens are instead of a program that nests within the limit: a program that is too deep, or none.
 #[derive(Clone, Copy)]
-pub enum Recognized {
-    Program,
+pub enum Fault {
     Deep,
-    Bad(usize),
+    Ungrammatical(Ungrammatical),
 }
 
 // One level more, up to the limit.
@@ -73,26 +72,16 @@ fn deeper(level: u32) -> u32
     if level < LEVELS { level + 1 } else { LEVELS }
 }
 
-fn no_frame() -> Frame
-    ensures { result ≡ rules.no_frame }
-{
-    Frame {
-        mark: mark::NOTHING_OPEN,
-        operator: 0,
-        level: 0,
-    }
-}
-
 // The stack stays as it is.
 fn stay(mode: u8, operator: u32, level: u32) -> Action
     ensures { result ≡ rules.stay mode operator level }
 {
     Action {
-        mode: mode,
-        operator: operator,
-        level: level,
+        mode,
+        operator,
+        level,
         pops: false,
-        pushed: no_frame(),
+        pushed: None,
     }
 }
 
@@ -101,11 +90,11 @@ fn leave(mode: u8, operator: u32, level: u32) -> Action
     ensures { result ≡ rules.leave mode operator level }
 {
     Action {
-        mode: mode,
-        operator: operator,
-        level: level,
+        mode,
+        operator,
+        level,
         pops: true,
-        pushed: no_frame(),
+        pushed: None,
     }
 }
 
@@ -114,15 +103,15 @@ fn enter(mode: u8, level: u32, mark: u32, operator: u32, below: u32) -> Action
     ensures { result ≡ rules.enter mode level mark operator below }
 {
     Action {
-        mode: mode,
+        mode,
         operator: 0,
-        level: level,
+        level,
         pops: false,
-        pushed: Frame {
-            mark: mark,
-            operator: operator,
+        pushed: Some(Frame {
+            mark,
+            operator,
             level: below,
-        },
+        }),
     }
 }
 
@@ -135,11 +124,11 @@ fn choose(level: u32) -> Action
         operator: 0,
         level: deeper(level),
         pops: true,
-        pushed: Frame {
+        pushed: Some(Frame {
             mark: mark::THEN_OPEN,
             operator: 0,
-            level: level,
-        },
+            level,
+        }),
     }
 }
 
@@ -457,6 +446,17 @@ fn decide(mode: u8, o: u32, level: u32, f: Frame, k: u8) -> Action
     in_expression(mode, o, level, f, k)
 }
 
+// The frame where nothing is open.
+fn no_frame() -> Frame
+    ensures { result ≡ rules.no_frame }
+{
+    Frame {
+        mark: mark::NOTHING_OPEN,
+        operator: 0,
+        level: 0,
+    }
+}
+
 // The innermost of the frames in the table, or none.
 fn innermost(table: &[u32; 4096], height: usize) -> Frame
     requires { height ≤ 1024 }
@@ -478,12 +478,10 @@ fn popped(height: usize, pops: bool) -> usize
     ensures { result ≡ rules.popped height pops }
 {
     if pops {
-        if 0 < height {
-            return height - 1;
-        }
-        return 0;
+        height.saturating_sub(1)
+    } else {
+        height
     }
-    height
 }
 
 // The stack after an action.
@@ -491,28 +489,16 @@ fn apply(table: &mut [u32; 4096], height: usize, a: Action) -> Control
     requires { (length table.old ≡ 4096) × (height < 1024) }
     ensures { (viewed table.new result ≡ rules.act a (rules.frames table.old height)) × (result.height ≤ height + 1) × (length table.new ≡ 4096) }
 {
-    let h = popped(height, a.pops);
-    if a.pushed.mark == mark::NOTHING_OPEN {
-        return Control {
-            mode: a.mode,
-            operator: a.operator,
-            level: a.level,
-            height: h,
-        };
+    let mut h = popped(height, a.pops);
+    if let Some(f) = a.pushed {
+        put(table, h, f.mark, f.operator, f.level, 0);
+        h += 1;
     }
-    put(
-        table,
-        h,
-        a.pushed.mark,
-        a.pushed.operator,
-        a.pushed.level,
-        0,
-    );
     Control {
         mode: a.mode,
         operator: a.operator,
         level: a.level,
-        height: h + 1,
+        height: h,
     }
 }
 
@@ -550,22 +536,29 @@ fn complete(mode: u8, height: usize) -> bool
     false
 }
 
+// Refused at token i.
+fn refused_at(i: usize) -> Result<(), Fault>
+    ensures { result ≡ refused_at i }
+{
+    Err(Fault::Ungrammatical(Ungrammatical { token: i }))
+}
+
 // The answer where no token is left, of n.
-fn at_end(complete: bool, deep: bool, n: usize) -> Recognized
+fn at_end(complete: bool, deep: bool, n: usize) -> Result<(), Fault>
     ensures { result ≡ ended complete deep n }
 {
-    if complete {
-        if deep {
-            return Recognized::Deep;
-        }
-        return Recognized::Program;
+    if !complete {
+        return refused_at(n);
     }
-    Recognized::Bad(n)
+    if deep {
+        return Err(Fault::Deep);
+    }
+    Ok(())
 }
 
 // Whether the tokens are a program, and where not; the table is the stack.
 // Open: what it leaves in the table.
-pub fn recognize(kinds: &[u8], table: &mut [u32; 4096]) -> Recognized
+pub fn recognize(kinds: &[u8], table: &mut [u32; 4096]) -> Result<(), Fault>
     requires { (length kinds.now ≤ 1024) × (length table.old ≡ 4096) }
     ensures { ((values : List ℕ) → Says (length kinds.now) (reads (unread kinds.now values 0)) result) × (length table.new ≡ 4096) }
 {
@@ -576,14 +569,12 @@ pub fn recognize(kinds: &[u8], table: &mut [u32; 4096]) -> Recognized
         height: 0,
     };
     let mut deep = false;
-    let mut i = 0;
-    while i < kinds.len() {
-        c = advance(table, c, kinds[i]);
+    for (i, k) in kinds.iter().enumerate() {
+        c = advance(table, c, *k);
         if c.mode == mode::REFUSED {
-            return Recognized::Bad(i);
+            return refused_at(i);
         }
         deep = deep_by(deep, c.level);
-        i += 1;
     }
-    at_end(complete(c.mode, c.height), deep, i)
+    at_end(complete(c.mode, c.height), deep, kinds.len())
 }

@@ -20,10 +20,11 @@ decreases-process l = 3 * (length l.kinds.now - l.i) + 2
 abbrev pub decreases-repetition : goal.decreases-repetition
 decreases-repetition l = 3 * (length l.kinds.now - l.i) + 1
 
-abbrev pub invariant-list-loop-x : goal.invariant-list-loop-x
-invariant-list-loop-x l =
-    (l.i ≤ l.at) × (l.at ≤ length l.kinds) × (l.row + l.count ≤ l.at) × (l.top + l.count ≤ l.at) × (Kept l.initial.pending l.pending l.top)
-    × (Resumes l.kinds l.values l.i l.n l.initial.table l.at l.row l.table l.pending l.top l.count l.depth l.deepest)
+abbrev pub invariant-list-loop-part : goal.invariant-list-loop-part
+invariant-list-loop-part l =
+    (l.i ≤ l.so_far.next) × (l.so_far.next ≤ length l.kinds) × (l.so_far.rows + l.count ≤ l.so_far.next) × (l.top + l.count ≤ l.so_far.next)
+    × (Kept l.initial.pending l.pending l.top)
+    × (Resumes l.kinds l.values l.i l.n l.initial.table l.so_far.next l.so_far.rows l.table l.pending l.top l.count l.so_far.depth l.so_far.deepest)
 
-abbrev pub decreases-list-loop-x : goal.decreases-list-loop-x
-decreases-list-loop-x l = length l.kinds - l.at
+abbrev pub decreases-list-loop-part : goal.decreases-list-loop-part
+decreases-list-loop-part l = length l.kinds - l.so_far.next

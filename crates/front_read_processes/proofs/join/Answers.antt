@@ -1,9 +1,6 @@
--- The invariant: the joints that are left, from here, are the joints of the whole.
+-- The joints that are left after one more row are those of the whole, by the definition of `joints`.
 use native.Mathlib.Omega.{arith}
-use mathlib.Core.Path.{◌≡◌, sym, ap, ◌∙◌}
-use mathlib.Core.List.{List}
-use Prim.Native.Nat.{ℕ, ◌+◌, ◌-◌, ◌*◌}
-use lib.ListN.{get_or}
+use Rattle.std.proofs.Common.{◌≡◌, sym, ap, ◌∙◌, List, ℕ, ◌+◌, ◌-◌, ◌*◌, get_or}
 use lib.Seq.{sets}
 use Rattle.x_grammar.specs.RawRows.{row as row_of}
 use Rattle.x_program.specs.Layout.{row_words}
@@ -17,13 +14,11 @@ loop-c-preserved c =
     let l = c.loop-c in
     let k = l.c - 1 in
     let e : c.put.new.table ≡ sets l.table (row_words * l.next) (row_of layout.sequence (get_or a.pending.now (a.top + k) 0) (l.next - 1) 0) =
-    ◌∙◌ {b = sets l.table (row_words * l.next) (row_of layout.sequence c.wide.result (l.next - 1) 0)} c.put.ensures
-    (ap (λ (x : ℕ). sets l.table (row_words * l.next) (row_of layout.sequence x (l.next - 1) 0)) c.wide.ensures) in (
+    c.put.ensures ∙ ap (λ (x : ℕ). sets l.table (row_words * l.next) (row_of layout.sequence x (l.next - 1) 0)) c.from.ensures in (
       omega arith,
       omega arith,
-      omega arith,
-      ap (λ (t : List ℕ). joints t (l.next + 1) a.pending.now a.top k) e ∙ sym (joints_more l.table l.next a.pending.now a.top l.c k (omega arith)) ∙ l.invariant.3,
+      ap (λ (t : List ℕ). joints t (l.next + 1) a.pending.now a.top k) e ∙ sym (joints_more l.table l.next a.pending.now a.top l.c k (omega arith)) ∙ l.invariant.2,
     )
 
 pub returns : goal.returns
-returns c = sym (joints_none _ _ _ _ _ (omega arith)) ∙ c.loop-c.invariant.3
+returns c = sym (joints_none _ _ _ _ _ (omega arith)) ∙ c.loop-c.invariant.2

@@ -1,13 +1,13 @@
--- `specifications` meets its contract, by the laws of specs/Specifications. The invariant: whatever the front reads as from here, it reads as from the first token.
-use mathlib.Core.List.{List}
-use Prim.Native.Nat.{ℕ, ◌-◌, ◌≤◌}
-use lib.ListN.{length}
+-- The invariant: whatever the front reads as from here, it reads as from the first token.
+use Rattle.std.proofs.Common.{List, ℕ, ◌-◌, ◌≤◌, length, Result}
+use Rattle.front_read_expressions.specs.declared.Ungrammatical.{Ungrammatical}
 use Rattle.front_read_program.specs.SpecificationReaders.{ReadsFront}
 use Rattle.front_read_program.specs.declared.Front.{Front}
 use Rattle.front_read_program.proofs.specifications.Given as goal
 
-abbrev pub invariant-loop-i : goal.invariant-loop-i
-invariant-loop-i l = (l.i ≤ length l.kinds) × (l.n ≤ l.i) × ((values : List ℕ) (r : Front) → ReadsFront l.kinds values l.i l.n l.start r → ReadsFront l.kinds values 0 0 0 r)
+abbrev pub invariant-loop-front : goal.invariant-loop-front
+invariant-loop-front l = (l.front.process ≤ length l.kinds) × (l.front.rows ≤ l.front.process)
+    × ((values : List ℕ) (r : Result Front Ungrammatical) → ReadsFront l.kinds values l.front.process l.front.rows l.front.start r → ReadsFront l.kinds values 0 0 0 r)
 
-abbrev pub decreases-loop-i : goal.decreases-loop-i
-decreases-loop-i l = length l.kinds - l.i
+abbrev pub decreases-loop-front : goal.decreases-loop-front
+decreases-loop-front l = length l.kinds - l.front.process

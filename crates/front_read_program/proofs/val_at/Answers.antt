@@ -1,39 +1,29 @@
 -- `val_at` meets its contract: each test is a move of the automaton, or the token where it stops.
-use mathlib.Core.Path.{refl, sym, ◌∙◌}
-use Prim.Native.Nat.{◌+◌}
+use Rattle.std.proofs.Common.{refl, ◌+◌, get_or}
 use native.Mathlib.Omega.{arith}
-use lib.ListN.{get_or}
 use Rattle.x_grammar.specs.Unread.{inside}
-use Rattle.front_read_program.specs.Specifications.{one_or_two, val_no_name, val_no_equal, val_no_constant, val_read_to}
+use Rattle.front_read_expressions.proofs.Passed.{passed}
+use Rattle.front_read_program.specs.Specifications.{val_no_name, val_no_equal, val_no_constant, val_read_to}
 use Rattle.front_read_program.proofs.val_at.Goals as goal
 
-pub returns-then-kind_at-ne-NAME : goal.returns-then-kind_at-ne-NAME
-returns-then-kind_at-ne-NAME c = λ values. val_no_name c.args.kinds.now values c.args.i c.requires.1 (λ e. c.if-kind_at-ne-NAME.true (c.kind_at.ensures ∙ e))
+pub returns-in_err-expect : goal.returns-in_err-expect
+returns-in_err-expect c =
+    let s = c.in_err-expect.ensures in
+    rw (passed _ _ c.from_residual.ensures.1) (λ values. rw s.0 (val_no_name _ values c.args.i c.requires.1 s.1))
 
-pub returns-then-kind_at-ne-EQUAL : goal.returns-then-kind_at-ne-EQUAL
-returns-then-kind_at-ne-EQUAL c =
-    let e1 = sym c.kind_at.ensures ∙ c.if-kind_at-ne-NAME.false in
-    λ values. val_no_equal c.args.kinds.now values c.args.i c.requires.1 e1 (λ e. c.if-kind_at-ne-EQUAL.true (c.kind_at-2.ensures ∙ e))
+pub returns-in_err-expect-2 : goal.returns-in_err-expect-2
+returns-in_err-expect-2 c =
+    let s = c.in_err-expect-2.ensures in
+    rw (passed _ _ c.from_residual-in_err-expect-2.ensures.1) (λ values. rw s.0 (val_no_equal _ values c.args.i c.requires.1 c.in_ok-expect.ensures s.1))
 
-pub returns-then-c-lt-NUMBER : goal.returns-then-c-lt-NUMBER
-returns-then-c-lt-NUMBER c =
-    let if1 = c.if-kind_at-ne-NAME in let kind_at = c.kind_at in
-    let e1 = sym kind_at.ensures ∙ if1.false in
-    let e2 = sym c.kind_at-2.ensures ∙ c.if-kind_at-ne-EQUAL.false in let k3 = c.kind_at-c.ensures in let u = c.if-c-lt-NUMBER.true in
-    λ values. val_no_constant c.args.kinds.now values c.args.i c.requires.1 e1 e2 (λ e. omega arith) (λ e. omega arith)
-
-pub returns-then-c-gt-NAME : goal.returns-then-c-gt-NAME
-returns-then-c-gt-NAME c =
-    let kind-at2 = c.kind_at-2 in let if1 = c.if-kind_at-ne-NAME in
-    let kind_at = c.kind_at in let e1 = sym kind_at.ensures ∙ if1.false in let e2 = sym kind-at2.ensures ∙ c.if-kind_at-ne-EQUAL.false in let k3 = c.kind_at-c.ensures in
-    let u = c.if-c-gt-NAME.true in λ values. val_no_constant c.args.kinds.now values c.args.i c.requires.1 e1 e2 (λ e. omega arith) (λ e. omega arith)
+pub returns-in_err-expect_constant : goal.returns-in_err-expect_constant
+returns-in_err-expect_constant c =
+    let s = c.in_err-expect_constant.ensures in
+    rw (passed _ _ c.from_residual-in_err-expect_constant.ensures.1)
+    (λ values. rw s.0 (val_no_constant _ values c.args.i c.requires.1 c.in_ok-expect.ensures c.in_ok-expect-2.ensures s.1 s.2))
 
 pub returns : goal.returns
 returns c =
-    let if2 = c.if-kind_at-ne-EQUAL in let kind-at2 = c.kind_at-2 in
-    let if1 = c.if-kind_at-ne-NAME in let kind_at = c.kind_at in
-    let e1 = sym kind_at.ensures ∙ if1.false in let e2 = sym kind-at2.ensures ∙ if2.false in
-    let k3 = c.kind_at-c.ensures in let u = c.if-c-lt-NUMBER.false in let v = c.if-c-gt-NAME.false in
-    let e3 = one_or_two (get_or c.args.kinds.now (c.args.i + 3) 0) (omega arith) (omega arith) in
-    let l3 = inside c.args.kinds.now (c.args.i + 3) (get_or c.args.kinds.now (c.args.i + 3) 0) refl (omega arith) in
-    rw c.end.ensures (λ values. val_read_to c.args.kinds.now values c.args.i c.requires.1 e1 e2 e3 l3)
+    let e = c.in_ok-expect_constant.ensures in
+    let l = inside c.args.kinds.now (c.args.i + 3) (get_or c.args.kinds.now (c.args.i + 3) 0) refl (omega arith) in
+    rw c.end.ensures (λ values. val_read_to _ values c.args.i c.requires.1 c.in_ok-expect.ensures c.in_ok-expect-2.ensures e l)

@@ -2,14 +2,11 @@
 -- is too deep where `deep` says so.
 use mathlib.Core.Path.{◌≡◌}
 use mathlib.Core.List.{List}
-use Prim.Native.Nat.{ℕ, ◌-◌, ◌≤◌}
+use Prim.Native.Nat.{ℕ, ◌≤◌}
 use lib.ListN.{length}
 use Rattle.front_recognizer.specs.Stack.{viewed}
 use Rattle.front_recognizer.specs.Recognized.{Stands}
 use Rattle.front_recognizer.proofs.recognize.Given as goal
 
 abbrev pub invariant-loop-i : goal.invariant-loop-i
-invariant-loop-i l = (l.i ≤ length l.kinds) × (l.c.height ≤ l.i) × (length l.table ≡ 4096) × ((values : List ℕ) → Stands l.kinds values l.i (viewed l.table l.c) l.deep)
-
-abbrev pub decreases-loop-i : goal.decreases-loop-i
-decreases-loop-i l = length l.kinds - l.i
+invariant-loop-i l = (l.c.height ≤ l.i) × (length l.table ≡ 4096) × ((values : List ℕ) → Stands l.kinds values l.i (viewed l.table l.c) l.deep)

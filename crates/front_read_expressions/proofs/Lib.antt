@@ -1,0 +1,2 @@
+-- What the readers' proofs share.
+pub mod Passed
