@@ -11,6 +11,7 @@ ghost use Rattle.front_recognizer.specs.Pushdown as rules;
 ghost use Rattle.front_recognizer.specs.Stack.{viewed};
 ghost use Rattle.front_recognizer.specs.Recognized.{Says, refused_at, ended};
 
+use crate::mode::Mode;
 use front_read_expressions::{Ungrammatical, is_diadic, is_monadic, put};
 use x_program::row;
 use x_spelling::kind;
@@ -42,7 +43,7 @@ pub struct Frame {
 // What a token does: the next mode, operator and level, whether a frame is popped, and which one is pushed.
 #[derive(Clone, Copy)]
 pub struct Action {
-    pub mode: u8,
+    pub mode: Mode,
     pub operator: u32,
     pub level: u32,
     pub pops: bool,
@@ -52,7 +53,7 @@ pub struct Action {
 // The automaton's control, and the number of frames in the table.
 #[derive(Clone, Copy)]
 pub struct Control {
-    pub mode: u8,
+    pub mode: Mode,
     pub operator: u32,
     pub level: u32,
     pub height: usize,
@@ -73,7 +74,7 @@ fn deeper(level: u32) -> u32
 }
 
 // The stack stays as it is.
-fn stay(mode: u8, operator: u32, level: u32) -> Action
+fn stay(mode: Mode, operator: u32, level: u32) -> Action
     ensures { result ≡ rules.stay mode operator level }
 {
     Action {
@@ -86,7 +87,7 @@ fn stay(mode: u8, operator: u32, level: u32) -> Action
 }
 
 // The innermost frame goes.
-fn leave(mode: u8, operator: u32, level: u32) -> Action
+fn leave(mode: Mode, operator: u32, level: u32) -> Action
     ensures { result ≡ rules.leave mode operator level }
 {
     Action {
@@ -99,7 +100,7 @@ fn leave(mode: u8, operator: u32, level: u32) -> Action
 }
 
 // A frame is pushed.
-fn enter(mode: u8, level: u32, mark: u32, operator: u32, below: u32) -> Action
+fn enter(mode: Mode, level: u32, mark: u32, operator: u32, below: u32) -> Action
     ensures { result ≡ rules.enter mode level mark operator below }
 {
     Action {
@@ -120,7 +121,7 @@ fn choose(level: u32) -> Action
     ensures { result ≡ rules.choose level }
 {
     Action {
-        mode: mode::NEED_PROCESS,
+        mode: Mode::NeedProcess,
         operator: 0,
         level: deeper(level),
         pops: true,
@@ -135,7 +136,7 @@ fn choose(level: u32) -> Action
 fn refuse() -> Action
     ensures { result ≡ rules.refuse }
 {
-    stay(mode::REFUSED, 0, 0)
+    stay(Mode::Refused, 0, 0)
 }
 
 // If the token is of kind `want`.
@@ -153,13 +154,13 @@ fn after_process(f: Frame, k: u8) -> Action
     ensures { result ≡ rules.after_process f k }
 {
     if f.mark == mark::THEN_OPEN {
-        return expect(k, kind::ELSE, leave(mode::NEED_PROCESS, 0, deeper(f.level)));
+        return expect(k, kind::ELSE, leave(Mode::NeedProcess, 0, deeper(f.level)));
     }
     if f.mark == mark::BRACES_OPEN {
         if k == kind::SEMICOLON {
-            return stay(mode::NEED_PROCESS, 0, deeper(f.level));
+            return stay(Mode::NeedProcess, 0, deeper(f.level));
         }
-        return expect(k, kind::CLOSE_BRACE, leave(mode::HAVE_PROCESS, 0, 0));
+        return expect(k, kind::CLOSE_BRACE, leave(Mode::HaveProcess, 0, 0));
     }
     refuse()
 }
@@ -172,27 +173,27 @@ fn after_expression(f: Frame, k: u8) -> Action
         return expect(
             k,
             kind::CLOSE_SUBSCRIPT,
-            leave(mode::TARGET_ELEMENT, 0, f.level),
+            leave(Mode::TargetElement, 0, f.level),
         );
     }
     if f.mark == mark::IF_OPEN {
         return expect(k, kind::THEN, choose(f.level));
     }
     if f.mark == mark::WHILE_OPEN {
-        return expect(k, kind::DO, leave(mode::NEED_PROCESS, 0, deeper(f.level)));
+        return expect(k, kind::DO, leave(Mode::NeedProcess, 0, deeper(f.level)));
     }
     if f.mark == mark::BRACKETS_OPEN {
         return expect(
             k,
             kind::CLOSE_BRACKET,
-            leave(mode::HAVE_OPERAND, f.operator, f.level),
+            leave(Mode::HaveOperand, f.operator, f.level),
         );
     }
     if f.mark == mark::SUBSCRIPT_OPEN {
         return expect(
             k,
             kind::CLOSE_SUBSCRIPT,
-            leave(mode::HAVE_OPERAND, f.operator, f.level),
+            leave(Mode::HaveOperand, f.operator, f.level),
         );
     }
     after_process(f, k)
@@ -219,12 +220,12 @@ fn after_operand(o: u32, level: u32, f: Frame, k: u8) -> Action
 {
     if o == NO_OPERATOR {
         if is_diadic(k) {
-            return stay(mode::NEED_OPERAND, k as u32 + CHAIN, deeper(level));
+            return stay(Mode::NeedOperand, k as u32 + CHAIN, deeper(level));
         }
         return after_expression(f, k);
     }
     if links(o, k) {
-        return stay(mode::NEED_OPERAND, o, deeper(level));
+        return stay(Mode::NeedOperand, o, deeper(level));
     }
     after_expression(f, k)
 }
@@ -233,16 +234,16 @@ fn start_operand(o: u32, level: u32, k: u8) -> Action
     ensures { result ≡ rules.start_operand o level k }
 {
     if k == kind::NUMBER {
-        return stay(mode::HAVE_OPERAND, o, level);
+        return stay(Mode::HaveOperand, o, level);
     }
     if k == kind::NAME {
-        return stay(mode::NAME_READ, o, level);
+        return stay(Mode::NameRead, o, level);
     }
     expect(
         k,
         kind::OPEN_BRACKET,
         enter(
-            mode::NEED_EXPRESSION,
+            Mode::NeedExpression,
             deeper(level),
             mark::BRACKETS_OPEN,
             o,
@@ -255,7 +256,7 @@ fn start_expression(level: u32, k: u8) -> Action
     ensures { result ≡ rules.start_expression level k }
 {
     if is_monadic(k) {
-        return stay(mode::NEED_OPERAND, AFTER_MONADIC, deeper(level));
+        return stay(Mode::NeedOperand, AFTER_MONADIC, deeper(level));
     }
     start_operand(NO_OPERATOR, level, k)
 }
@@ -264,17 +265,17 @@ fn start_process(level: u32, k: u8) -> Action
     ensures { result ≡ rules.start_process level k }
 {
     if k == kind::NAME {
-        return stay(mode::TARGET, 0, level);
+        return stay(Mode::Target, 0, level);
     }
     if k == kind::SKIP {
-        return stay(mode::HAVE_PROCESS, 0, 0);
+        return stay(Mode::HaveProcess, 0, 0);
     }
     if k == kind::STOP {
-        return stay(mode::HAVE_PROCESS, 0, 0);
+        return stay(Mode::HaveProcess, 0, 0);
     }
     if k == kind::OPEN_BRACE {
         return enter(
-            mode::BRACE_OPENED,
+            Mode::BraceOpened,
             level,
             mark::BRACES_OPEN,
             NO_OPERATOR,
@@ -282,22 +283,22 @@ fn start_process(level: u32, k: u8) -> Action
         );
     }
     if k == kind::IF {
-        return enter(mode::NEED_EXPRESSION, 0, mark::IF_OPEN, NO_OPERATOR, level);
+        return enter(Mode::NeedExpression, 0, mark::IF_OPEN, NO_OPERATOR, level);
     }
     if k == kind::WHILE {
         return enter(
-            mode::NEED_EXPRESSION,
+            Mode::NeedExpression,
             0,
             mark::WHILE_OPEN,
             NO_OPERATOR,
             level,
         );
     }
-    expect(k, kind::COMMENT, stay(mode::NEED_PROCESS, 0, level))
+    expect(k, kind::COMMENT, stay(Mode::NeedProcess, 0, level))
 }
 
 // A constant of a specification: a number or a name.
-fn expect_constant(k: u8, mode: u8) -> Action
+fn expect_constant(k: u8, mode: Mode) -> Action
     ensures { result ≡ rules.expect_constant k mode }
 {
     if k == kind::NUMBER {
@@ -306,54 +307,33 @@ fn expect_constant(k: u8, mode: u8) -> Action
     expect(k, kind::NAME, stay(mode, 0, 0))
 }
 
-// Within a specification.
-fn specify(mode: u8, k: u8) -> Action
-    ensures { result ≡ rules.specify mode k }
-{
-    if mode == mode::VAR_READ {
-        return expect(k, kind::NAME, stay(mode::SPECIFIED, 0, 0));
-    }
-    if mode == mode::ARRAY_READ {
-        return expect(k, kind::NAME, stay(mode::ARRAY_NAMED, 0, 0));
-    }
-    if mode == mode::ARRAY_NAMED {
-        return expect(k, kind::OPEN_SUBSCRIPT, stay(mode::ARRAY_OPENED, 0, 0));
-    }
-    if mode == mode::ARRAY_OPENED {
-        return expect_constant(k, mode::ARRAY_SIZED);
-    }
-    if mode == mode::ARRAY_SIZED {
-        return expect(k, kind::CLOSE_SUBSCRIPT, stay(mode::SPECIFIED, 0, 0));
-    }
-    if mode == mode::VAL_READ {
-        return expect(k, kind::NAME, stay(mode::VAL_NAMED, 0, 0));
-    }
-    if mode == mode::VAL_NAMED {
-        return expect(k, kind::EQUAL, stay(mode::VAL_EQUATED, 0, 0));
-    }
-    if mode == mode::VAL_EQUATED {
-        return expect_constant(k, mode::SPECIFIED);
-    }
-    expect(k, kind::SEMICOLON, stay(mode::FRONT, 0, 0))
-}
-
 // At the front: a comment, a specification or the process.
 fn start_program(k: u8) -> Action
     ensures { result ≡ rules.start_program k }
 {
     if k == kind::COMMENT {
-        return stay(mode::FRONT, 0, 0);
+        return stay(Mode::Front, 0, 0);
     }
     if k == kind::VAR {
-        return stay(mode::VAR_READ, 0, 0);
+        return stay(Mode::VarRead, 0, 0);
     }
     if k == kind::ARRAY {
-        return stay(mode::ARRAY_READ, 0, 0);
+        return stay(Mode::ArrayRead, 0, 0);
     }
     if k == kind::VAL {
-        return stay(mode::VAL_READ, 0, 0);
+        return stay(Mode::ValRead, 0, 0);
     }
     start_process(0, k)
+}
+
+// After an opening brace: it closes, or the first process of a list starts.
+fn after_brace(level: u32, k: u8) -> Action
+    ensures { result ≡ rules.after_brace level k }
+{
+    if k == kind::CLOSE_BRACE {
+        return leave(Mode::HaveProcess, 0, 0);
+    }
+    start_process(deeper(level), k)
 }
 
 // After the name that a process assigns to.
@@ -361,13 +341,13 @@ fn after_target(level: u32, k: u8) -> Action
     ensures { result ≡ rules.after_target level k }
 {
     if k == kind::BECOMES {
-        return stay(mode::NEED_EXPRESSION, 0, 0);
+        return stay(Mode::NeedExpression, 0, 0);
     }
     expect(
         k,
         kind::OPEN_SUBSCRIPT,
         enter(
-            mode::NEED_EXPRESSION,
+            Mode::NeedExpression,
             1,
             mark::TARGET_OPEN,
             NO_OPERATOR,
@@ -376,35 +356,13 @@ fn after_target(level: u32, k: u8) -> Action
     )
 }
 
-// The modes of a process.
-fn in_process(mode: u8, level: u32, f: Frame, k: u8) -> Action
-    ensures { result ≡ rules.in_process mode level f k }
-{
-    if mode == mode::NEED_PROCESS {
-        return start_process(level, k);
-    }
-    if mode == mode::BRACE_OPENED {
-        if k == kind::CLOSE_BRACE {
-            return leave(mode::HAVE_PROCESS, 0, 0);
-        }
-        return start_process(deeper(level), k);
-    }
-    if mode == mode::TARGET {
-        return after_target(level, k);
-    }
-    if mode == mode::TARGET_ELEMENT {
-        return expect(k, kind::BECOMES, stay(mode::NEED_EXPRESSION, 0, 0));
-    }
-    after_process(f, k)
-}
-
 // After a name that is an operand, or the name of an element.
 fn after_name(o: u32, level: u32, f: Frame, k: u8) -> Action
     ensures { result ≡ rules.after_name o level f k }
 {
     if k == kind::OPEN_SUBSCRIPT {
         return enter(
-            mode::NEED_EXPRESSION,
+            Mode::NeedExpression,
             deeper(level),
             mark::SUBSCRIPT_OPEN,
             o,
@@ -414,36 +372,31 @@ fn after_name(o: u32, level: u32, f: Frame, k: u8) -> Action
     after_operand(o, level, f, k)
 }
 
-// The modes of an expression.
-fn in_expression(mode: u8, o: u32, level: u32, f: Frame, k: u8) -> Action
-    ensures { result ≡ rules.in_expression mode o level f k }
-{
-    if mode == mode::NEED_EXPRESSION {
-        return start_expression(level, k);
-    }
-    if mode == mode::NEED_OPERAND {
-        return start_operand(o, level, k);
-    }
-    if mode == mode::NAME_READ {
-        return after_name(o, level, f, k);
-    }
-    after_operand(o, level, f, k)
-}
-
 // What a token of kind k does, f the innermost frame.
-fn decide(mode: u8, o: u32, level: u32, f: Frame, k: u8) -> Action
+fn decide(mode: Mode, o: u32, level: u32, f: Frame, k: u8) -> Action
     ensures { result ≡ rules.decide mode o level f k }
 {
-    if mode == mode::FRONT {
-        return start_program(k);
+    match mode {
+        Mode::Front => start_program(k),
+        Mode::VarRead => expect(k, kind::NAME, stay(Mode::Specified, 0, 0)),
+        Mode::ArrayRead => expect(k, kind::NAME, stay(Mode::ArrayNamed, 0, 0)),
+        Mode::ArrayNamed => expect(k, kind::OPEN_SUBSCRIPT, stay(Mode::ArrayOpened, 0, 0)),
+        Mode::ArrayOpened => expect_constant(k, Mode::ArraySized),
+        Mode::ArraySized => expect(k, kind::CLOSE_SUBSCRIPT, stay(Mode::Specified, 0, 0)),
+        Mode::ValRead => expect(k, kind::NAME, stay(Mode::ValNamed, 0, 0)),
+        Mode::ValNamed => expect(k, kind::EQUAL, stay(Mode::ValEquated, 0, 0)),
+        Mode::ValEquated => expect_constant(k, Mode::Specified),
+        Mode::Specified => expect(k, kind::SEMICOLON, stay(Mode::Front, 0, 0)),
+        Mode::NeedProcess => start_process(level, k),
+        Mode::BraceOpened => after_brace(level, k),
+        Mode::Target => after_target(level, k),
+        Mode::TargetElement => expect(k, kind::BECOMES, stay(Mode::NeedExpression, 0, 0)),
+        Mode::HaveProcess => after_process(f, k),
+        Mode::NeedExpression => start_expression(level, k),
+        Mode::NeedOperand => start_operand(o, level, k),
+        Mode::NameRead => after_name(o, level, f, k),
+        Mode::HaveOperand | Mode::Refused => after_operand(o, level, f, k),
     }
-    if mode < mode::NEED_PROCESS {
-        return specify(mode, k);
-    }
-    if mode < mode::NEED_EXPRESSION {
-        return in_process(mode, level, f, k);
-    }
-    in_expression(mode, o, level, f, k)
 }
 
 // The frame where nothing is open.
@@ -523,17 +476,21 @@ fn deep_by(deep: bool, level: u32) -> bool
     deep
 }
 
+// Whether a program can end in this mode, where nothing is open.
+fn ends_in(mode: Mode) -> bool
+    ensures { result ≡ rules.ends_in mode }
+{
+    matches!(
+        mode,
+        Mode::HaveProcess | Mode::NameRead | Mode::HaveOperand | Mode::Refused
+    )
+}
+
 // Whether a program ends here.
-fn complete(mode: u8, height: usize) -> bool
+fn complete(mode: Mode, height: usize) -> bool
     ensures { result ≡ rules.ends_at mode height }
 {
-    if height == 0 {
-        if mode == mode::HAVE_PROCESS {
-            return true;
-        }
-        return mode::NEED_OPERAND < mode;
-    }
-    false
+    height == 0 && ends_in(mode)
 }
 
 // Refused at token i.
@@ -563,7 +520,7 @@ pub fn recognize(kinds: &[u8], table: &mut [u32; 4096]) -> Result<(), Fault>
     ensures { ((values : List ℕ) → Says (length kinds.now) (reads (unread kinds.now values 0)) result) × (length table.new ≡ 4096) }
 {
     let mut c = Control {
-        mode: mode::FRONT,
+        mode: Mode::Front,
         operator: 0,
         level: 0,
         height: 0,
@@ -571,7 +528,7 @@ pub fn recognize(kinds: &[u8], table: &mut [u32; 4096]) -> Result<(), Fault>
     let mut deep = false;
     for (i, k) in kinds.iter().enumerate() {
         c = advance(table, c, *k);
-        if c.mode == mode::REFUSED {
+        if let Mode::Refused = c.mode {
             return refused_at(i);
         }
         deep = deep_by(deep, c.level);
