@@ -15,8 +15,9 @@ use Rattle.x_grammar.specs.TokenArrays.{token_of}
 use Rattle.x_grammar.specs.Unread.{token_case, at_is}
 use Rattle.front_recognizer.specs.declared.Frame.{Frame}
 use Rattle.front_recognizer.specs.declared.Action.{Action}
+use Rattle.front_recognizer.specs.declared.mark.Mark.TheVariants as open_mark
 use Rattle.front_recognizer.specs.declared.mode.Mode.TheVariants as mode
-use Rattle.front_recognizer.specs.Pushdown.{frame, braces_open, counted, level_process, level_list, level_expression, level_operand, level_chain, operator_before, frames_process}
+use Rattle.front_recognizer.specs.Pushdown.{frame, counted, level_process, level_list, level_expression, level_operand, level_chain, operator_before, frames_process}
 use Rattle.front_recognizer.specs.Pushdown.{frames_list}
 use Rattle.front_recognizer.specs.Pushdown.{frames_expression, frames_operand, frames_chain, mode_partial, configuration, after_process, after_expression, links, after_operand, start_operand}
 use Rattle.front_recognizer.specs.Pushdown.{start_expression, start_process, decide, no_frame, innermost, act, doing, complete}
@@ -35,7 +36,7 @@ either_name : (s : List Frame) (b c : Bool) (x y : Move) (X Y : Action) → b �
 either_name s b c x y X Y e f g = subst (λ (d : Bool). Agrees (pick b x y) (pick d X Y) s) e (keep s b x y X Y f g)
 
 -- a list in braces has one frame
-list_frame : (c : ListContext) → frames_list c ≡ frame braces_open 0 (counted (level_process (list_base c))) ∷ frames_process (list_base c)
+list_frame : (c : ListContext) → frames_list c ≡ frame open_mark.Braces 0 (counted (level_process (list_base c))) ∷ frames_process (list_base c)
 list_frame (opened c) = refl
 list_frame (also p c) = list_frame c
 

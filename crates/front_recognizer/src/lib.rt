@@ -11,6 +11,7 @@ ghost use Rattle.front_recognizer.specs.Pushdown as rules;
 ghost use Rattle.front_recognizer.specs.Stack.{viewed};
 ghost use Rattle.front_recognizer.specs.Recognized.{Says, refused_at, ended};
 
+use crate::mark::Mark;
 use crate::mode::Mode;
 use front_read_expressions::{Ungrammatical, is_diadic, is_monadic, put};
 use x_program::row;
@@ -20,6 +21,8 @@ use x_spelling::kind;
 const LEVELS: u32 = 32;
 
 // The operator before an operand: none, a monadic one, or a chain's, as 2 more than its kind.
+// A number and no enum: it is kept in a frame's word in the table, and an enum that holds the kind reads back
+// from a word (frames_pushed of specs/Stack) only with a bound on the kind that each frame would have to carry.
 const NO_OPERATOR: u32 = 0;
 
 const AFTER_MONADIC: u32 = 1;
@@ -35,7 +38,7 @@ const CHAIN_OF_XOR: u32 = kind::XOR as u32 + CHAIN;
 // What is open, by its mark; the operator before it, and the level outside.
 #[derive(Clone, Copy)]
 pub struct Frame {
-    pub mark: u32,
+    pub mark: Mark,
     pub operator: u32,
     pub level: u32,
 }
@@ -100,7 +103,7 @@ fn leave(mode: Mode, operator: u32, level: u32) -> Action
 }
 
 // A frame is pushed.
-fn enter(mode: Mode, level: u32, mark: u32, operator: u32, below: u32) -> Action
+fn enter(mode: Mode, level: u32, mark: Mark, operator: u32, below: u32) -> Action
     ensures { result ≡ rules.enter mode level mark operator below }
 {
     Action {
@@ -126,7 +129,7 @@ fn choose(level: u32) -> Action
         level: deeper(level),
         pops: true,
         pushed: Some(Frame {
-            mark: mark::THEN_OPEN,
+            mark: Mark::Then,
             operator: 0,
             level,
         }),
@@ -153,65 +156,52 @@ fn expect(k: u8, want: u8, then: Action) -> Action
 fn after_process(f: Frame, k: u8) -> Action
     ensures { result ≡ rules.after_process f k }
 {
-    if f.mark == mark::THEN_OPEN {
-        return expect(k, kind::ELSE, leave(Mode::NeedProcess, 0, deeper(f.level)));
-    }
-    if f.mark == mark::BRACES_OPEN {
-        if k == kind::SEMICOLON {
-            return stay(Mode::NeedProcess, 0, deeper(f.level));
+    match f.mark {
+        Mark::Then => expect(k, kind::ELSE, leave(Mode::NeedProcess, 0, deeper(f.level))),
+        Mark::Braces => {
+            if k == kind::SEMICOLON {
+                return stay(Mode::NeedProcess, 0, deeper(f.level));
+            }
+            expect(k, kind::CLOSE_BRACE, leave(Mode::HaveProcess, 0, 0))
         }
-        return expect(k, kind::CLOSE_BRACE, leave(Mode::HaveProcess, 0, 0));
+        _ => refuse(),
     }
-    refuse()
 }
 
 // After a whole expression: a target's subscript, a condition, brackets, a subscript; else it was assigned.
 fn after_expression(f: Frame, k: u8) -> Action
     ensures { result ≡ rules.after_expression f k }
 {
-    if f.mark == mark::TARGET_OPEN {
-        return expect(
+    match f.mark {
+        Mark::Target => expect(
             k,
             kind::CLOSE_SUBSCRIPT,
             leave(Mode::TargetElement, 0, f.level),
-        );
-    }
-    if f.mark == mark::IF_OPEN {
-        return expect(k, kind::THEN, choose(f.level));
-    }
-    if f.mark == mark::WHILE_OPEN {
-        return expect(k, kind::DO, leave(Mode::NeedProcess, 0, deeper(f.level)));
-    }
-    if f.mark == mark::BRACKETS_OPEN {
-        return expect(
+        ),
+        Mark::If => expect(k, kind::THEN, choose(f.level)),
+        Mark::While => expect(k, kind::DO, leave(Mode::NeedProcess, 0, deeper(f.level))),
+        Mark::Brackets => expect(
             k,
             kind::CLOSE_BRACKET,
             leave(Mode::HaveOperand, f.operator, f.level),
-        );
-    }
-    if f.mark == mark::SUBSCRIPT_OPEN {
-        return expect(
+        ),
+        Mark::Subscript => expect(
             k,
             kind::CLOSE_SUBSCRIPT,
             leave(Mode::HaveOperand, f.operator, f.level),
-        );
+        ),
+        _ => after_process(f, k),
     }
-    after_process(f, k)
 }
 
 // The chain that o stands for goes on with a token of kind k.
 fn links(o: u32, k: u8) -> bool
     ensures { result ≡ rules.links o k }
 {
-    if o == CHAIN_OF_PLUS {
-        return k == kind::PLUS;
+    match o {
+        CHAIN_OF_PLUS | CHAIN_OF_TIMES..=CHAIN_OF_XOR => u32::from(k) == o - CHAIN,
+        _ => false,
     }
-    if CHAIN_OF_TIMES <= o {
-        if o <= CHAIN_OF_XOR {
-            return k as u32 == o - CHAIN;
-        }
-    }
-    false
 }
 
 // After a whole operand, which stood behind the operator o.
@@ -220,7 +210,7 @@ fn after_operand(o: u32, level: u32, f: Frame, k: u8) -> Action
 {
     if o == NO_OPERATOR {
         if is_diadic(k) {
-            return stay(Mode::NeedOperand, k as u32 + CHAIN, deeper(level));
+            return stay(Mode::NeedOperand, u32::from(k) + CHAIN, deeper(level));
         }
         return after_expression(f, k);
     }
@@ -233,23 +223,21 @@ fn after_operand(o: u32, level: u32, f: Frame, k: u8) -> Action
 fn start_operand(o: u32, level: u32, k: u8) -> Action
     ensures { result ≡ rules.start_operand o level k }
 {
-    if k == kind::NUMBER {
-        return stay(Mode::HaveOperand, o, level);
-    }
-    if k == kind::NAME {
-        return stay(Mode::NameRead, o, level);
-    }
-    expect(
-        k,
-        kind::OPEN_BRACKET,
-        enter(
-            Mode::NeedExpression,
-            deeper(level),
-            mark::BRACKETS_OPEN,
-            o,
-            level,
+    match k {
+        kind::NUMBER => stay(Mode::HaveOperand, o, level),
+        kind::NAME => stay(Mode::NameRead, o, level),
+        _ => expect(
+            k,
+            kind::OPEN_BRACKET,
+            enter(
+                Mode::NeedExpression,
+                deeper(level),
+                Mark::Brackets,
+                o,
+                level,
+            ),
         ),
-    )
+    }
 }
 
 fn start_expression(level: u32, k: u8) -> Action
@@ -264,66 +252,37 @@ fn start_expression(level: u32, k: u8) -> Action
 fn start_process(level: u32, k: u8) -> Action
     ensures { result ≡ rules.start_process level k }
 {
-    if k == kind::NAME {
-        return stay(Mode::Target, 0, level);
+    match k {
+        kind::NAME => stay(Mode::Target, 0, level),
+        kind::SKIP | kind::STOP => stay(Mode::HaveProcess, 0, 0),
+        kind::OPEN_BRACE => enter(Mode::BraceOpened, level, Mark::Braces, NO_OPERATOR, level),
+        kind::IF => enter(Mode::NeedExpression, 0, Mark::If, NO_OPERATOR, level),
+        kind::WHILE => enter(Mode::NeedExpression, 0, Mark::While, NO_OPERATOR, level),
+        _ => expect(k, kind::COMMENT, stay(Mode::NeedProcess, 0, level)),
     }
-    if k == kind::SKIP {
-        return stay(Mode::HaveProcess, 0, 0);
-    }
-    if k == kind::STOP {
-        return stay(Mode::HaveProcess, 0, 0);
-    }
-    if k == kind::OPEN_BRACE {
-        return enter(
-            Mode::BraceOpened,
-            level,
-            mark::BRACES_OPEN,
-            NO_OPERATOR,
-            level,
-        );
-    }
-    if k == kind::IF {
-        return enter(Mode::NeedExpression, 0, mark::IF_OPEN, NO_OPERATOR, level);
-    }
-    if k == kind::WHILE {
-        return enter(
-            Mode::NeedExpression,
-            0,
-            mark::WHILE_OPEN,
-            NO_OPERATOR,
-            level,
-        );
-    }
-    expect(k, kind::COMMENT, stay(Mode::NeedProcess, 0, level))
 }
 
 // A constant of a specification: a number or a name.
 fn expect_constant(k: u8, mode: Mode) -> Action
     ensures { result ≡ rules.expect_constant k mode }
 {
-    if k == kind::NUMBER {
-        return stay(mode, 0, 0);
+    match k {
+        kind::NUMBER | kind::NAME => stay(mode, 0, 0),
+        _ => refuse(),
     }
-    expect(k, kind::NAME, stay(mode, 0, 0))
 }
 
 // At the front: a comment, a specification or the process.
 fn start_program(k: u8) -> Action
     ensures { result ≡ rules.start_program k }
 {
-    if k == kind::COMMENT {
-        return stay(Mode::Front, 0, 0);
+    match k {
+        kind::COMMENT => stay(Mode::Front, 0, 0),
+        kind::VAR => stay(Mode::VarRead, 0, 0),
+        kind::ARRAY => stay(Mode::ArrayRead, 0, 0),
+        kind::VAL => stay(Mode::ValRead, 0, 0),
+        _ => start_process(0, k),
     }
-    if k == kind::VAR {
-        return stay(Mode::VarRead, 0, 0);
-    }
-    if k == kind::ARRAY {
-        return stay(Mode::ArrayRead, 0, 0);
-    }
-    if k == kind::VAL {
-        return stay(Mode::ValRead, 0, 0);
-    }
-    start_process(0, k)
 }
 
 // After an opening brace: it closes, or the first process of a list starts.
@@ -346,13 +305,7 @@ fn after_target(level: u32, k: u8) -> Action
     expect(
         k,
         kind::OPEN_SUBSCRIPT,
-        enter(
-            Mode::NeedExpression,
-            1,
-            mark::TARGET_OPEN,
-            NO_OPERATOR,
-            level,
-        ),
+        enter(Mode::NeedExpression, 1, Mark::Target, NO_OPERATOR, level),
     )
 }
 
@@ -364,7 +317,7 @@ fn after_name(o: u32, level: u32, f: Frame, k: u8) -> Action
         return enter(
             Mode::NeedExpression,
             deeper(level),
-            mark::SUBSCRIPT_OPEN,
+            Mark::Subscript,
             o,
             level,
         );
@@ -404,7 +357,7 @@ fn no_frame() -> Frame
     ensures { result ≡ rules.no_frame }
 {
     Frame {
-        mark: mark::NOTHING_OPEN,
+        mark: Mark::Nothing,
         operator: 0,
         level: 0,
     }
@@ -420,7 +373,7 @@ fn innermost(table: &[u32; 4096], height: usize) -> Frame
     }
     let n = height - 1;
     Frame {
-        mark: table[row::WORDS * n],
+        mark: Mark::from(table[row::WORDS * n]),
         operator: table[row::WORDS * n + 1],
         level: table[row::WORDS * n + 2],
     }
@@ -444,7 +397,7 @@ fn apply(table: &mut [u32; 4096], height: usize, a: Action) -> Control
 {
     let mut h = popped(height, a.pops);
     if let Some(f) = a.pushed {
-        put(table, h, f.mark, f.operator, f.level, 0);
+        put(table, h, u32::from(f.mark), f.operator, f.level, 0);
         h += 1;
     }
     Control {
@@ -470,10 +423,7 @@ fn advance(table: &mut [u32; 4096], c: Control, k: u8) -> Control
 fn deep_by(deep: bool, level: u32) -> bool
     ensures { result ≡ rules.deep_by deep level }
 {
-    if level == LEVELS {
-        return true;
-    }
-    deep
+    deep || level == LEVELS
 }
 
 // Whether a program can end in this mode, where nothing is open.
