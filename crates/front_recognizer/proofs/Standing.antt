@@ -8,7 +8,7 @@ use Rattle.x_grammar.specs.Automaton.{Move, go, none, step}
 use Rattle.x_grammar.specs.Automaton.{onward, run, reads}
 use Rattle.x_grammar.specs.TokenArrays.{token_of, unread}
 use Rattle.x_grammar.specs.Unread.{unread_cons, length_unread}
-use Rattle.front_recognizer.specs.Modes as mode
+use Rattle.front_recognizer.specs.declared.mode.Mode.TheVariants as mode
 use Rattle.front_recognizer.specs.Pushdown.{Configuration, advance, doing, deep_by}
 use Rattle.front_recognizer.specs.Follows.{Agrees, follows}
 use Rattle.front_recognizer.specs.Levels.{Levels}
@@ -29,14 +29,14 @@ module _ (kinds values : List ℕ) where
         ∙ ap (λ (m : Move). onward m (t ∷ unread kinds values (i + 1)) (run (unread kinds values (i + 1)))) q
         ∙ ap (λ (w : List Token). onward m w (run (unread kinds values (i + 1)))) (sym (unread_cons kinds values i b))
 
-    pub stands_bad : c'.mode ≡ mode.refused → Says (length kinds) (reads (unread kinds values 0)) (refused_at i)
+    pub stands_bad : c'.mode ≡ mode.Refused → Says (length kinds) (reads (unread kinds values 0)) (refused_at i)
     stands_bad z = by (step h.state t) refl onto
       where
         by : (m : Move) → step h.state t ≡ m → Agrees m (doing c (get_or kinds i 0)) c.stack → Says (length kinds) (reads (unread kinds values 0)) (refused_at i)
         by none q g = (unread kinds values i, after none q, omega (arith, b, length_unread kinds values i))
         by (go s) q g = absurd (not_refused s (ap (λ (d : Configuration). d.mode) (sym g ∙ sym e) ∙ z))
 
-    pub stands_next : ¬ (c'.mode ≡ mode.refused) → Stands kinds values (i + 1) c' (deep_by deep c'.level)
+    pub stands_next : ¬ (c'.mode ≡ mode.Refused) → Stands kinds values (i + 1) c' (deep_by deep c'.level)
     stands_next z = by (step h.state t) refl onto
       where
         by : (m : Move) → step h.state t ≡ m → Agrees m (doing c (get_or kinds i 0)) c.stack → Stands kinds values (i + 1) c' (deep_by deep c'.level)

@@ -15,15 +15,16 @@ use Rattle.x_grammar.specs.TokenArrays.{token_of}
 use Rattle.x_grammar.specs.Unread.{token_case, at_is}
 use Rattle.front_recognizer.specs.declared.Frame.{Frame}
 use Rattle.front_recognizer.specs.declared.Action.{Action}
-use Rattle.front_recognizer.specs.Modes as mode
-use Rattle.front_recognizer.specs.Pushdown.{frame, braces_open, counted, level_process, level_list, level_expression, level_operand, level_chain, operator_before, frames_process}
+use Rattle.front_recognizer.specs.declared.mark.Mark.TheVariants as open_mark
+use Rattle.front_recognizer.specs.declared.mode.Mode.TheVariants as mode
+use Rattle.front_recognizer.specs.Pushdown.{frame, counted, level_process, level_list, level_expression, level_operand, level_chain, operator_before, frames_process}
 use Rattle.front_recognizer.specs.Pushdown.{frames_list}
 use Rattle.front_recognizer.specs.Pushdown.{frames_expression, frames_operand, frames_chain, mode_partial, configuration, after_process, after_expression, links, after_operand, start_operand}
-use Rattle.front_recognizer.specs.Pushdown.{start_expression, start_process, specify, innermost, act, doing, complete}
+use Rattle.front_recognizer.specs.Pushdown.{start_expression, start_process, decide, no_frame, innermost, act, doing, complete}
 
 -- an action is the automaton's move, where the stack is s
 abbrev pub Agrees : Move → Action → List Frame → Type 0
-Agrees none a s = a.mode ≡ mode.refused
+Agrees none a s = a.mode ≡ mode.Refused
 Agrees (go q) a s = act a s ≡ configuration q
 
 -- the same either way; and with the same test by another name
@@ -35,7 +36,7 @@ either_name : (s : List Frame) (b c : Bool) (x y : Move) (X Y : Action) → b �
 either_name s b c x y X Y e f g = subst (λ (d : Bool). Agrees (pick b x y) (pick d X Y) s) e (keep s b x y X Y f g)
 
 -- a list in braces has one frame
-list_frame : (c : ListContext) → frames_list c ≡ frame braces_open 0 (counted (level_process (list_base c))) ∷ frames_process (list_base c)
+list_frame : (c : ListContext) → frames_list c ≡ frame open_mark.Braces 0 (counted (level_process (list_base c))) ∷ frames_process (list_base c)
 list_frame (opened c) = refl
 list_frame (also p c) = list_frame c
 
@@ -134,17 +135,17 @@ starts_process c i k v =
     (keep _ (eqb k kind.if) _ _ _ _ refl
     (keep _ (eqb k kind.while) _ _ _ _ refl (keep _ (eqb k kind.comment) _ _ _ _ refl refl)))))))
 
-specifies : (b : List Specification) (n : ℕ) (x : Partial) (i k v : ℕ) → Agrees (step_partial b n x (token_of i k v)) (specify (mode_partial x) k) []
-specifies b n var_read i k v = token_case (λ k t. Agrees (step_partial b n var_read t) (specify mode.var_read k) []) i k v refl refl (λ y z. rw (ne_eqb k kind.name z) refl)
-specifies b n array_read i k v = token_case (λ k t. Agrees (step_partial b n array_read t) (specify mode.array_read k) []) i k v refl refl (λ y z. rw (ne_eqb k kind.name z) refl)
+specifies : (b : List Specification) (n : ℕ) (x : Partial) (i k v : ℕ) → Agrees (step_partial b n x (token_of i k v)) (decide (mode_partial x) 0 0 no_frame k) []
+specifies b n var_read i k v = token_case (λ k t. Agrees (step_partial b n var_read t) (decide mode.VarRead 0 0 no_frame k) []) i k v refl refl (λ y z. rw (ne_eqb k kind.name z) refl)
+specifies b n array_read i k v = token_case (λ k t. Agrees (step_partial b n array_read t) (decide mode.ArrayRead 0 0 no_frame k) []) i k v refl refl (λ y z. rw (ne_eqb k kind.name z) refl)
 specifies b n (array_named x) i k v = either_name _ _ _ _ _ _ _ (at_is kind.open_subscript i k v (omega arith)) refl refl
 specifies b n (array_opened x) i k v =
-    token_case (λ k t. Agrees (step_partial b n (array_opened x) t) (specify mode.array_opened k) []) i k v refl refl (λ y z. rw (ne_eqb k kind.number y, ne_eqb k kind.name z) refl)
+    token_case (λ k t. Agrees (step_partial b n (array_opened x) t) (decide mode.ArrayOpened 0 0 no_frame k) []) i k v refl refl (λ y z. rw (ne_eqb k kind.number y, ne_eqb k kind.name z) refl)
 specifies b n (array_sized x c) i k v = either_name _ _ _ _ _ _ _ (at_is kind.close_subscript i k v (omega arith)) refl refl
-specifies b n val_read i k v = token_case (λ k t. Agrees (step_partial b n val_read t) (specify mode.val_read k) []) i k v refl refl (λ y z. rw (ne_eqb k kind.name z) refl)
+specifies b n val_read i k v = token_case (λ k t. Agrees (step_partial b n val_read t) (decide mode.ValRead 0 0 no_frame k) []) i k v refl refl (λ y z. rw (ne_eqb k kind.name z) refl)
 specifies b n (val_named x) i k v = either_name _ _ _ _ _ _ _ (at_is kind.equal i k v (omega arith)) refl refl
 specifies b n (val_equated x) i k v =
-    token_case (λ k t. Agrees (step_partial b n (val_equated x) t) (specify mode.val_equated k) []) i k v refl refl (λ y z. rw (ne_eqb k kind.number y, ne_eqb k kind.name z) refl)
+    token_case (λ k t. Agrees (step_partial b n (val_equated x) t) (decide mode.ValEquated 0 0 no_frame k) []) i k v refl refl (λ y z. rw (ne_eqb k kind.number y, ne_eqb k kind.name z) refl)
 specifies b n (whole s) i k v = either_name _ _ _ _ _ _ _ (at_is kind.semicolon i k v (omega arith)) refl refl
 
 -- comments before the process stand in no frame
@@ -165,18 +166,7 @@ follows (at_front b n) i k v =
     either_name _ _ _ _ _ _ _ (at_is kind.comment i k v (omega arith)) refl
     (either_name _ _ _ _ _ _ _ (at_is kind.var i k v (omega arith)) refl
     (either_name _ _ _ _ _ _ _ (at_is kind.array i k v (omega arith)) refl (either_name _ _ _ _ _ _ _ (at_is kind.val i k v (omega arith)) refl (starts_commented b n i k v))))
-follows (specifying b n x) i k v = subst (λ (a : Action). Agrees (step_partial b n x (token_of i k v)) a []) (by x) (specifies b n x i k v)
-  where
-    by : (x : Partial) → specify (mode_partial x) k ≡ doing (configuration (specifying b n x)) k
-    by var_read = refl
-    by array_read = refl
-    by (array_named x) = refl
-    by (array_opened x) = refl
-    by (array_sized x c) = refl
-    by val_read = refl
-    by (val_named x) = refl
-    by (val_equated x) = refl
-    by (whole s) = refl
+follows (specifying b n x) i k v = specifies b n x i k v
 follows (need_process c) i k v = starts_process c i k v
 follows (brace_opened c) i k v = either_name _ _ _ _ _ _ _ (at_is kind.close_brace i k v (omega arith)) refl (starts_process (in_braces (opened c)) i k v)
 follows (target n c) i k v = either_name _ _ _ _ _ _ _ (at_is kind.becomes i k v (omega arith)) refl (either_name _ _ _ _ _ _ _ (at_is kind.open_subscript i k v (omega arith)) refl refl)

@@ -1,5 +1,5 @@
 -- What the recognizer promises, and the laws behind it.
-pub mod Modes
+pub mod Marks
 pub mod Pushdown
 pub mod Stack
 pub mod Follows

@@ -14,36 +14,36 @@ use Rattle.x_grammar.specs.TreeDepth.{depth, deepest, depth_limit}
 use Rattle.x_grammar.specs.Nesting.{Bounded}
 use Rattle.front_recognizer.specs.declared.Fault.{Fault}
 use Rattle.front_recognizer.specs.declared.Fault.TheVariants as fault
-use Rattle.front_recognizer.specs.Modes as mode
+use Rattle.front_recognizer.specs.declared.mode.Mode.TheVariants as mode
 use Rattle.front_recognizer.specs.Pushdown.{Configuration, at, no_operator, configuration, mode_partial, complete}
 use Rattle.front_recognizer.specs.Follows.{Ends, finishes}
 use Rattle.front_recognizer.specs.Levels.{Levels, levels_first, levels_nest, levels_deep}
 
 -- no state is refused
-partial_not_refused : (x : Partial) → mode_partial x ≡ mode.refused → ⊥
-partial_not_refused var_read e = omega (arith, e)
-partial_not_refused array_read e = omega (arith, e)
-partial_not_refused (array_named x) e = omega (arith, e)
-partial_not_refused (array_opened x) e = omega (arith, e)
-partial_not_refused (array_sized x c) e = omega (arith, e)
-partial_not_refused val_read e = omega (arith, e)
-partial_not_refused (val_named x) e = omega (arith, e)
-partial_not_refused (val_equated x) e = omega (arith, e)
-partial_not_refused (whole s) e = omega (arith, e)
+partial_not_refused : (x : Partial) → mode_partial x ≡ mode.Refused → ⊥
+partial_not_refused var_read e = cc
+partial_not_refused array_read e = cc
+partial_not_refused (array_named x) e = cc
+partial_not_refused (array_opened x) e = cc
+partial_not_refused (array_sized x c) e = cc
+partial_not_refused val_read e = cc
+partial_not_refused (val_named x) e = cc
+partial_not_refused (val_equated x) e = cc
+partial_not_refused (whole s) e = cc
 
-pub not_refused : (s : State) → (configuration s).mode ≡ mode.refused → ⊥
-not_refused (at_front b n) e = omega (arith, e)
+pub not_refused : (s : State) → (configuration s).mode ≡ mode.Refused → ⊥
+not_refused (at_front b n) e = cc
 not_refused (specifying b n x) e = partial_not_refused x e
-not_refused (need_process c) e = omega (arith, e)
-not_refused (brace_opened c) e = omega (arith, e)
-not_refused (target n c) e = omega (arith, e)
-not_refused (target_element n s c) e = omega (arith, e)
-not_refused (have_process p c) e = omega (arith, e)
-not_refused (need_expression c) e = omega (arith, e)
-not_refused (need_operand c) e = omega (arith, e)
-not_refused (name_read n c) e = omega (arith, e)
-not_refused (have_operand a c) e = omega (arith, e)
-not_refused (have_expression x c) e = omega (arith, e)
+not_refused (need_process c) e = cc
+not_refused (brace_opened c) e = cc
+not_refused (target n c) e = cc
+not_refused (target_element n s c) e = cc
+not_refused (have_process p c) e = cc
+not_refused (need_expression c) e = cc
+not_refused (need_operand c) e = cc
+not_refused (name_read n c) e = cc
+not_refused (have_operand a c) e = cc
+not_refused (have_expression x c) e = cc
 
 -- the answer of n tokens that read as r
 abbrev pub Says : ℕ → Reading → Result (Unit {0}) Fault → Type 0
@@ -65,7 +65,7 @@ module _ (kinds values : List ℕ) where
     pub comes : reads (unread kinds values 0) ≡ run (unread kinds values i) state
     pub levels : Levels deep state
 
-  pub stands_first : Stands 0 (at mode.front no_operator 0 []) false
+  pub stands_first : Stands 0 (at mode.Front no_operator 0 []) false
   unfolding reads
   stands_first = record { state = at_front [] 0; same = refl; comes = refl; levels = levels_first }
 

@@ -10,6 +10,7 @@ use Rattle.x_program.specs.Layout.{row_words}
 use Rattle.front_recognizer.specs.declared.Frame.{Frame}
 use Rattle.front_recognizer.specs.declared.Action.{Action}
 use Rattle.front_recognizer.specs.declared.Control.{Control}
+use Rattle.front_recognizer.specs.Marks.{mark_number, mark_of, mark_back}
 use Rattle.front_recognizer.specs.Pushdown.{frame, Configuration, at, frames, pop, act, popped, links, in_chain, chain_operator}
 
 -- the configuration that the control and the table are
@@ -18,7 +19,7 @@ viewed t c = at c.mode c.operator c.level (frames t c.height)
 
 -- row n as a frame
 abbrev pub frame_at : List ℕ → ℕ → Frame
-frame_at t n = frame (get_or t (row_words * n) 0) (get_or t (row_words * n + 1) 0) (get_or t (row_words * n + 2) 0)
+frame_at t n = frame (mark_of (get_or t (row_words * n) 0)) (get_or t (row_words * n + 1) 0) (get_or t (row_words * n + 2) 0)
 
 pub frames_none : (t : List ℕ) (h : ℕ) → h ≡ 0 → frames t h ≡ []
 unfolding frames
@@ -74,7 +75,7 @@ module _ (t : List ℕ) (n a b c d : ℕ) (room : row_words * n + row_words ≤ 
       ∙ get_or-set_same (set (set t (row_words * n) a) (suc (row_words * n)) b) (suc (suc (row_words * n))) c 0
       (omega (arith, length-set t (row_words * n) a, length-set (set t (row_words * n) a) (suc (row_words * n)) b))
 
-  frames_pushed : frames (sets t (row_words * n) (row a b c d)) (n + 1) ≡ frame a b c ∷ frames t n
+  frames_pushed : frames (sets t (row_words * n) (row a b c d)) (n + 1) ≡ frame (mark_of a) b c ∷ frames t n
   frames_pushed = frames_some (sets t (row_words * n) (row a b c d)) (n + 1) n refl ∙ rw (at_mark, at_operator, at_level, frames_kept t (row a b c d) n n (omega arith))
 
 frames_popped : (t : List ℕ) (h : ℕ) (b : Bool) → frames t (popped h b) ≡ pop b (frames t h)
@@ -92,8 +93,8 @@ pub act_kept : (t : List ℕ) (h : ℕ) (a : Action) → a.pushed ≡ None → a
 act_kept t h a e = rw (e, frames_popped t h a.pops)
 
 pub act_pushed : (t t' : List ℕ) (h n : ℕ) (a : Action) (f : Frame) → a.pushed ≡ Some f → n ≡ popped h a.pops → length t ≡ 4096 → h < 1024
-    → t' ≡ sets t (row_words * n) (row f.mark f.operator f.level 0) → at a.mode a.operator a.level (frames t' (n + 1)) ≡ act a (frames t h)
-act_pushed t t' h n a f z e l b s = rw (s, frames_pushed t n f.mark f.operator f.level 0 (omega (arith, popped_low h a.pops)), z, e, frames_popped t h a.pops)
+    → t' ≡ sets t (row_words * n) (row (mark_number f.mark) f.operator f.level 0) → at a.mode a.operator a.level (frames t' (n + 1)) ≡ act a (frames t h)
+act_pushed t t' h n a f z e l b s = rw (s, frames_pushed t n (mark_number f.mark) f.operator f.level 0 (omega (arith, popped_low h a.pops)), mark_back f.mark, z, e, frames_popped t h a.pops)
 
 pub popped_fits : (h n : ℕ) (b : Bool) → n ≡ popped h b → h < 1024 → n ≤ h
 popped_fits h n b e l = omega (arith, popped_low h b)

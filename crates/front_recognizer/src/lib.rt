@@ -11,6 +11,8 @@ ghost use Rattle.front_recognizer.specs.Pushdown as rules;
 ghost use Rattle.front_recognizer.specs.Stack.{viewed};
 ghost use Rattle.front_recognizer.specs.Recognized.{Says, refused_at, ended};
 
+use crate::mark::Mark;
+use crate::mode::Mode;
 use front_read_expressions::{Ungrammatical, is_diadic, is_monadic, put};
 use x_program::row;
 use x_spelling::kind;
@@ -19,6 +21,8 @@ use x_spelling::kind;
 const LEVELS: u32 = 32;
 
 // The operator before an operand: none, a monadic one, or a chain's, as 2 more than its kind.
+// A number and no enum: it is kept in a frame's word in the table, and an enum that holds the kind reads back
+// from a word (frames_pushed of specs/Stack) only with a bound on the kind that each frame would have to carry.
 const NO_OPERATOR: u32 = 0;
 
 const AFTER_MONADIC: u32 = 1;
@@ -34,7 +38,7 @@ const CHAIN_OF_XOR: u32 = kind::XOR as u32 + CHAIN;
 // What is open, by its mark; the operator before it, and the level outside.
 #[derive(Clone, Copy)]
 pub struct Frame {
-    pub mark: u32,
+    pub mark: Mark,
     pub operator: u32,
     pub level: u32,
 }
@@ -42,7 +46,7 @@ pub struct Frame {
 // What a token does: the next mode, operator and level, whether a frame is popped, and which one is pushed.
 #[derive(Clone, Copy)]
 pub struct Action {
-    pub mode: u8,
+    pub mode: Mode,
     pub operator: u32,
     pub level: u32,
     pub pops: bool,
@@ -52,7 +56,7 @@ pub struct Action {
 // The automaton's control, and the number of frames in the table.
 #[derive(Clone, Copy)]
 pub struct Control {
-    pub mode: u8,
+    pub mode: Mode,
     pub operator: u32,
     pub level: u32,
     pub height: usize,
@@ -73,7 +77,7 @@ fn deeper(level: u32) -> u32
 }
 
 // The stack stays as it is.
-fn stay(mode: u8, operator: u32, level: u32) -> Action
+fn stay(mode: Mode, operator: u32, level: u32) -> Action
     ensures { result ≡ rules.stay mode operator level }
 {
     Action {
@@ -86,7 +90,7 @@ fn stay(mode: u8, operator: u32, level: u32) -> Action
 }
 
 // The innermost frame goes.
-fn leave(mode: u8, operator: u32, level: u32) -> Action
+fn leave(mode: Mode, operator: u32, level: u32) -> Action
     ensures { result ≡ rules.leave mode operator level }
 {
     Action {
@@ -99,7 +103,7 @@ fn leave(mode: u8, operator: u32, level: u32) -> Action
 }
 
 // A frame is pushed.
-fn enter(mode: u8, level: u32, mark: u32, operator: u32, below: u32) -> Action
+fn enter(mode: Mode, level: u32, mark: Mark, operator: u32, below: u32) -> Action
     ensures { result ≡ rules.enter mode level mark operator below }
 {
     Action {
@@ -120,12 +124,12 @@ fn choose(level: u32) -> Action
     ensures { result ≡ rules.choose level }
 {
     Action {
-        mode: mode::NEED_PROCESS,
+        mode: Mode::NeedProcess,
         operator: 0,
         level: deeper(level),
         pops: true,
         pushed: Some(Frame {
-            mark: mark::THEN_OPEN,
+            mark: Mark::Then,
             operator: 0,
             level,
         }),
@@ -135,7 +139,7 @@ fn choose(level: u32) -> Action
 fn refuse() -> Action
     ensures { result ≡ rules.refuse }
 {
-    stay(mode::REFUSED, 0, 0)
+    stay(Mode::Refused, 0, 0)
 }
 
 // If the token is of kind `want`.
@@ -152,65 +156,52 @@ fn expect(k: u8, want: u8, then: Action) -> Action
 fn after_process(f: Frame, k: u8) -> Action
     ensures { result ≡ rules.after_process f k }
 {
-    if f.mark == mark::THEN_OPEN {
-        return expect(k, kind::ELSE, leave(mode::NEED_PROCESS, 0, deeper(f.level)));
-    }
-    if f.mark == mark::BRACES_OPEN {
-        if k == kind::SEMICOLON {
-            return stay(mode::NEED_PROCESS, 0, deeper(f.level));
+    match f.mark {
+        Mark::Then => expect(k, kind::ELSE, leave(Mode::NeedProcess, 0, deeper(f.level))),
+        Mark::Braces => {
+            if k == kind::SEMICOLON {
+                return stay(Mode::NeedProcess, 0, deeper(f.level));
+            }
+            expect(k, kind::CLOSE_BRACE, leave(Mode::HaveProcess, 0, 0))
         }
-        return expect(k, kind::CLOSE_BRACE, leave(mode::HAVE_PROCESS, 0, 0));
+        _ => refuse(),
     }
-    refuse()
 }
 
 // After a whole expression: a target's subscript, a condition, brackets, a subscript; else it was assigned.
 fn after_expression(f: Frame, k: u8) -> Action
     ensures { result ≡ rules.after_expression f k }
 {
-    if f.mark == mark::TARGET_OPEN {
-        return expect(
+    match f.mark {
+        Mark::Target => expect(
             k,
             kind::CLOSE_SUBSCRIPT,
-            leave(mode::TARGET_ELEMENT, 0, f.level),
-        );
-    }
-    if f.mark == mark::IF_OPEN {
-        return expect(k, kind::THEN, choose(f.level));
-    }
-    if f.mark == mark::WHILE_OPEN {
-        return expect(k, kind::DO, leave(mode::NEED_PROCESS, 0, deeper(f.level)));
-    }
-    if f.mark == mark::BRACKETS_OPEN {
-        return expect(
+            leave(Mode::TargetElement, 0, f.level),
+        ),
+        Mark::If => expect(k, kind::THEN, choose(f.level)),
+        Mark::While => expect(k, kind::DO, leave(Mode::NeedProcess, 0, deeper(f.level))),
+        Mark::Brackets => expect(
             k,
             kind::CLOSE_BRACKET,
-            leave(mode::HAVE_OPERAND, f.operator, f.level),
-        );
-    }
-    if f.mark == mark::SUBSCRIPT_OPEN {
-        return expect(
+            leave(Mode::HaveOperand, f.operator, f.level),
+        ),
+        Mark::Subscript => expect(
             k,
             kind::CLOSE_SUBSCRIPT,
-            leave(mode::HAVE_OPERAND, f.operator, f.level),
-        );
+            leave(Mode::HaveOperand, f.operator, f.level),
+        ),
+        _ => after_process(f, k),
     }
-    after_process(f, k)
 }
 
 // The chain that o stands for goes on with a token of kind k.
 fn links(o: u32, k: u8) -> bool
     ensures { result ≡ rules.links o k }
 {
-    if o == CHAIN_OF_PLUS {
-        return k == kind::PLUS;
+    match o {
+        CHAIN_OF_PLUS | CHAIN_OF_TIMES..=CHAIN_OF_XOR => u32::from(k) == o - CHAIN,
+        _ => false,
     }
-    if CHAIN_OF_TIMES <= o {
-        if o <= CHAIN_OF_XOR {
-            return k as u32 == o - CHAIN;
-        }
-    }
-    false
 }
 
 // After a whole operand, which stood behind the operator o.
@@ -219,12 +210,12 @@ fn after_operand(o: u32, level: u32, f: Frame, k: u8) -> Action
 {
     if o == NO_OPERATOR {
         if is_diadic(k) {
-            return stay(mode::NEED_OPERAND, k as u32 + CHAIN, deeper(level));
+            return stay(Mode::NeedOperand, u32::from(k) + CHAIN, deeper(level));
         }
         return after_expression(f, k);
     }
     if links(o, k) {
-        return stay(mode::NEED_OPERAND, o, deeper(level));
+        return stay(Mode::NeedOperand, o, deeper(level));
     }
     after_expression(f, k)
 }
@@ -232,30 +223,28 @@ fn after_operand(o: u32, level: u32, f: Frame, k: u8) -> Action
 fn start_operand(o: u32, level: u32, k: u8) -> Action
     ensures { result ≡ rules.start_operand o level k }
 {
-    if k == kind::NUMBER {
-        return stay(mode::HAVE_OPERAND, o, level);
-    }
-    if k == kind::NAME {
-        return stay(mode::NAME_READ, o, level);
-    }
-    expect(
-        k,
-        kind::OPEN_BRACKET,
-        enter(
-            mode::NEED_EXPRESSION,
-            deeper(level),
-            mark::BRACKETS_OPEN,
-            o,
-            level,
+    match k {
+        kind::NUMBER => stay(Mode::HaveOperand, o, level),
+        kind::NAME => stay(Mode::NameRead, o, level),
+        _ => expect(
+            k,
+            kind::OPEN_BRACKET,
+            enter(
+                Mode::NeedExpression,
+                deeper(level),
+                Mark::Brackets,
+                o,
+                level,
+            ),
         ),
-    )
+    }
 }
 
 fn start_expression(level: u32, k: u8) -> Action
     ensures { result ≡ rules.start_expression level k }
 {
     if is_monadic(k) {
-        return stay(mode::NEED_OPERAND, AFTER_MONADIC, deeper(level));
+        return stay(Mode::NeedOperand, AFTER_MONADIC, deeper(level));
     }
     start_operand(NO_OPERATOR, level, k)
 }
@@ -263,97 +252,47 @@ fn start_expression(level: u32, k: u8) -> Action
 fn start_process(level: u32, k: u8) -> Action
     ensures { result ≡ rules.start_process level k }
 {
-    if k == kind::NAME {
-        return stay(mode::TARGET, 0, level);
+    match k {
+        kind::NAME => stay(Mode::Target, 0, level),
+        kind::SKIP | kind::STOP => stay(Mode::HaveProcess, 0, 0),
+        kind::OPEN_BRACE => enter(Mode::BraceOpened, level, Mark::Braces, NO_OPERATOR, level),
+        kind::IF => enter(Mode::NeedExpression, 0, Mark::If, NO_OPERATOR, level),
+        kind::WHILE => enter(Mode::NeedExpression, 0, Mark::While, NO_OPERATOR, level),
+        _ => expect(k, kind::COMMENT, stay(Mode::NeedProcess, 0, level)),
     }
-    if k == kind::SKIP {
-        return stay(mode::HAVE_PROCESS, 0, 0);
-    }
-    if k == kind::STOP {
-        return stay(mode::HAVE_PROCESS, 0, 0);
-    }
-    if k == kind::OPEN_BRACE {
-        return enter(
-            mode::BRACE_OPENED,
-            level,
-            mark::BRACES_OPEN,
-            NO_OPERATOR,
-            level,
-        );
-    }
-    if k == kind::IF {
-        return enter(mode::NEED_EXPRESSION, 0, mark::IF_OPEN, NO_OPERATOR, level);
-    }
-    if k == kind::WHILE {
-        return enter(
-            mode::NEED_EXPRESSION,
-            0,
-            mark::WHILE_OPEN,
-            NO_OPERATOR,
-            level,
-        );
-    }
-    expect(k, kind::COMMENT, stay(mode::NEED_PROCESS, 0, level))
 }
 
 // A constant of a specification: a number or a name.
-fn expect_constant(k: u8, mode: u8) -> Action
+fn expect_constant(k: u8, mode: Mode) -> Action
     ensures { result ≡ rules.expect_constant k mode }
 {
-    if k == kind::NUMBER {
-        return stay(mode, 0, 0);
+    match k {
+        kind::NUMBER | kind::NAME => stay(mode, 0, 0),
+        _ => refuse(),
     }
-    expect(k, kind::NAME, stay(mode, 0, 0))
-}
-
-// Within a specification.
-fn specify(mode: u8, k: u8) -> Action
-    ensures { result ≡ rules.specify mode k }
-{
-    if mode == mode::VAR_READ {
-        return expect(k, kind::NAME, stay(mode::SPECIFIED, 0, 0));
-    }
-    if mode == mode::ARRAY_READ {
-        return expect(k, kind::NAME, stay(mode::ARRAY_NAMED, 0, 0));
-    }
-    if mode == mode::ARRAY_NAMED {
-        return expect(k, kind::OPEN_SUBSCRIPT, stay(mode::ARRAY_OPENED, 0, 0));
-    }
-    if mode == mode::ARRAY_OPENED {
-        return expect_constant(k, mode::ARRAY_SIZED);
-    }
-    if mode == mode::ARRAY_SIZED {
-        return expect(k, kind::CLOSE_SUBSCRIPT, stay(mode::SPECIFIED, 0, 0));
-    }
-    if mode == mode::VAL_READ {
-        return expect(k, kind::NAME, stay(mode::VAL_NAMED, 0, 0));
-    }
-    if mode == mode::VAL_NAMED {
-        return expect(k, kind::EQUAL, stay(mode::VAL_EQUATED, 0, 0));
-    }
-    if mode == mode::VAL_EQUATED {
-        return expect_constant(k, mode::SPECIFIED);
-    }
-    expect(k, kind::SEMICOLON, stay(mode::FRONT, 0, 0))
 }
 
 // At the front: a comment, a specification or the process.
 fn start_program(k: u8) -> Action
     ensures { result ≡ rules.start_program k }
 {
-    if k == kind::COMMENT {
-        return stay(mode::FRONT, 0, 0);
+    match k {
+        kind::COMMENT => stay(Mode::Front, 0, 0),
+        kind::VAR => stay(Mode::VarRead, 0, 0),
+        kind::ARRAY => stay(Mode::ArrayRead, 0, 0),
+        kind::VAL => stay(Mode::ValRead, 0, 0),
+        _ => start_process(0, k),
     }
-    if k == kind::VAR {
-        return stay(mode::VAR_READ, 0, 0);
+}
+
+// After an opening brace: it closes, or the first process of a list starts.
+fn after_brace(level: u32, k: u8) -> Action
+    ensures { result ≡ rules.after_brace level k }
+{
+    if k == kind::CLOSE_BRACE {
+        return leave(Mode::HaveProcess, 0, 0);
     }
-    if k == kind::ARRAY {
-        return stay(mode::ARRAY_READ, 0, 0);
-    }
-    if k == kind::VAL {
-        return stay(mode::VAL_READ, 0, 0);
-    }
-    start_process(0, k)
+    start_process(deeper(level), k)
 }
 
 // After the name that a process assigns to.
@@ -361,41 +300,13 @@ fn after_target(level: u32, k: u8) -> Action
     ensures { result ≡ rules.after_target level k }
 {
     if k == kind::BECOMES {
-        return stay(mode::NEED_EXPRESSION, 0, 0);
+        return stay(Mode::NeedExpression, 0, 0);
     }
     expect(
         k,
         kind::OPEN_SUBSCRIPT,
-        enter(
-            mode::NEED_EXPRESSION,
-            1,
-            mark::TARGET_OPEN,
-            NO_OPERATOR,
-            level,
-        ),
+        enter(Mode::NeedExpression, 1, Mark::Target, NO_OPERATOR, level),
     )
-}
-
-// The modes of a process.
-fn in_process(mode: u8, level: u32, f: Frame, k: u8) -> Action
-    ensures { result ≡ rules.in_process mode level f k }
-{
-    if mode == mode::NEED_PROCESS {
-        return start_process(level, k);
-    }
-    if mode == mode::BRACE_OPENED {
-        if k == kind::CLOSE_BRACE {
-            return leave(mode::HAVE_PROCESS, 0, 0);
-        }
-        return start_process(deeper(level), k);
-    }
-    if mode == mode::TARGET {
-        return after_target(level, k);
-    }
-    if mode == mode::TARGET_ELEMENT {
-        return expect(k, kind::BECOMES, stay(mode::NEED_EXPRESSION, 0, 0));
-    }
-    after_process(f, k)
 }
 
 // After a name that is an operand, or the name of an element.
@@ -404,9 +315,9 @@ fn after_name(o: u32, level: u32, f: Frame, k: u8) -> Action
 {
     if k == kind::OPEN_SUBSCRIPT {
         return enter(
-            mode::NEED_EXPRESSION,
+            Mode::NeedExpression,
             deeper(level),
-            mark::SUBSCRIPT_OPEN,
+            Mark::Subscript,
             o,
             level,
         );
@@ -414,36 +325,31 @@ fn after_name(o: u32, level: u32, f: Frame, k: u8) -> Action
     after_operand(o, level, f, k)
 }
 
-// The modes of an expression.
-fn in_expression(mode: u8, o: u32, level: u32, f: Frame, k: u8) -> Action
-    ensures { result ≡ rules.in_expression mode o level f k }
-{
-    if mode == mode::NEED_EXPRESSION {
-        return start_expression(level, k);
-    }
-    if mode == mode::NEED_OPERAND {
-        return start_operand(o, level, k);
-    }
-    if mode == mode::NAME_READ {
-        return after_name(o, level, f, k);
-    }
-    after_operand(o, level, f, k)
-}
-
 // What a token of kind k does, f the innermost frame.
-fn decide(mode: u8, o: u32, level: u32, f: Frame, k: u8) -> Action
+fn decide(mode: Mode, o: u32, level: u32, f: Frame, k: u8) -> Action
     ensures { result ≡ rules.decide mode o level f k }
 {
-    if mode == mode::FRONT {
-        return start_program(k);
+    match mode {
+        Mode::Front => start_program(k),
+        Mode::VarRead => expect(k, kind::NAME, stay(Mode::Specified, 0, 0)),
+        Mode::ArrayRead => expect(k, kind::NAME, stay(Mode::ArrayNamed, 0, 0)),
+        Mode::ArrayNamed => expect(k, kind::OPEN_SUBSCRIPT, stay(Mode::ArrayOpened, 0, 0)),
+        Mode::ArrayOpened => expect_constant(k, Mode::ArraySized),
+        Mode::ArraySized => expect(k, kind::CLOSE_SUBSCRIPT, stay(Mode::Specified, 0, 0)),
+        Mode::ValRead => expect(k, kind::NAME, stay(Mode::ValNamed, 0, 0)),
+        Mode::ValNamed => expect(k, kind::EQUAL, stay(Mode::ValEquated, 0, 0)),
+        Mode::ValEquated => expect_constant(k, Mode::Specified),
+        Mode::Specified => expect(k, kind::SEMICOLON, stay(Mode::Front, 0, 0)),
+        Mode::NeedProcess => start_process(level, k),
+        Mode::BraceOpened => after_brace(level, k),
+        Mode::Target => after_target(level, k),
+        Mode::TargetElement => expect(k, kind::BECOMES, stay(Mode::NeedExpression, 0, 0)),
+        Mode::HaveProcess => after_process(f, k),
+        Mode::NeedExpression => start_expression(level, k),
+        Mode::NeedOperand => start_operand(o, level, k),
+        Mode::NameRead => after_name(o, level, f, k),
+        Mode::HaveOperand | Mode::Refused => after_operand(o, level, f, k),
     }
-    if mode < mode::NEED_PROCESS {
-        return specify(mode, k);
-    }
-    if mode < mode::NEED_EXPRESSION {
-        return in_process(mode, level, f, k);
-    }
-    in_expression(mode, o, level, f, k)
 }
 
 // The frame where nothing is open.
@@ -451,7 +357,7 @@ fn no_frame() -> Frame
     ensures { result ≡ rules.no_frame }
 {
     Frame {
-        mark: mark::NOTHING_OPEN,
+        mark: Mark::Nothing,
         operator: 0,
         level: 0,
     }
@@ -467,7 +373,7 @@ fn innermost(table: &[u32; 4096], height: usize) -> Frame
     }
     let n = height - 1;
     Frame {
-        mark: table[row::WORDS * n],
+        mark: Mark::from(table[row::WORDS * n]),
         operator: table[row::WORDS * n + 1],
         level: table[row::WORDS * n + 2],
     }
@@ -491,7 +397,7 @@ fn apply(table: &mut [u32; 4096], height: usize, a: Action) -> Control
 {
     let mut h = popped(height, a.pops);
     if let Some(f) = a.pushed {
-        put(table, h, f.mark, f.operator, f.level, 0);
+        put(table, h, u32::from(f.mark), f.operator, f.level, 0);
         h += 1;
     }
     Control {
@@ -517,23 +423,24 @@ fn advance(table: &mut [u32; 4096], c: Control, k: u8) -> Control
 fn deep_by(deep: bool, level: u32) -> bool
     ensures { result ≡ rules.deep_by deep level }
 {
-    if level == LEVELS {
-        return true;
-    }
-    deep
+    deep || level == LEVELS
+}
+
+// Whether a program can end in this mode, where nothing is open.
+fn ends_in(mode: Mode) -> bool
+    ensures { result ≡ rules.ends_in mode }
+{
+    matches!(
+        mode,
+        Mode::HaveProcess | Mode::NameRead | Mode::HaveOperand | Mode::Refused
+    )
 }
 
 // Whether a program ends here.
-fn complete(mode: u8, height: usize) -> bool
+fn complete(mode: Mode, height: usize) -> bool
     ensures { result ≡ rules.ends_at mode height }
 {
-    if height == 0 {
-        if mode == mode::HAVE_PROCESS {
-            return true;
-        }
-        return mode::NEED_OPERAND < mode;
-    }
-    false
+    height == 0 && ends_in(mode)
 }
 
 // Refused at token i.
@@ -563,7 +470,7 @@ pub fn recognize(kinds: &[u8], table: &mut [u32; 4096]) -> Result<(), Fault>
     ensures { ((values : List ℕ) → Says (length kinds.now) (reads (unread kinds.now values 0)) result) × (length table.new ≡ 4096) }
 {
     let mut c = Control {
-        mode: mode::FRONT,
+        mode: Mode::Front,
         operator: 0,
         level: 0,
         height: 0,
@@ -571,7 +478,7 @@ pub fn recognize(kinds: &[u8], table: &mut [u32; 4096]) -> Result<(), Fault>
     let mut deep = false;
     for (i, k) in kinds.iter().enumerate() {
         c = advance(table, c, *k);
-        if c.mode == mode::REFUSED {
+        if let Mode::Refused = c.mode {
             return refused_at(i);
         }
         deep = deep_by(deep, c.level);

@@ -1,16 +1,50 @@
-// The marks of what is open, by number: see specs/Pushdown.antt.
-pub const NOTHING_OPEN: u32 = 0;
+ghost use Rattle.std.specs.Prelude.{◌≡◌};
+ghost use Rattle.front_recognizer.specs.Marks.{mark_number, mark_of};
 
-pub const THEN_OPEN: u32 = 1;
+// What is open, and so what ends it.
+#[derive(Clone, Copy)]
+pub enum Mark {
+    Nothing,
+    Then,
+    Braces,
+    Target,
+    If,
+    While,
+    Brackets,
+    Subscript,
+}
 
-pub const BRACES_OPEN: u32 = 2;
+// A frame's mark stands in the table as its number.
+impl From<Mark> for u32 {
+    ghost from_gives = { λ m e. e ≡ mark_number m };
 
-pub const TARGET_OPEN: u32 = 3;
+    fn from(m: Mark) -> u32 {
+        match m {
+            Mark::Nothing => 0,
+            Mark::Then => 1,
+            Mark::Braces => 2,
+            Mark::Target => 3,
+            Mark::If => 4,
+            Mark::While => 5,
+            Mark::Brackets => 6,
+            Mark::Subscript => 7,
+        }
+    }
+}
 
-pub const IF_OPEN: u32 = 4;
+impl From<u32> for Mark {
+    ghost from_gives = { λ n e. e ≡ mark_of n };
 
-pub const WHILE_OPEN: u32 = 5;
-
-pub const BRACKETS_OPEN: u32 = 6;
-
-pub const SUBSCRIPT_OPEN: u32 = 7;
+    fn from(n: u32) -> Mark {
+        match n {
+            1 => Mark::Then,
+            2 => Mark::Braces,
+            3 => Mark::Target,
+            4 => Mark::If,
+            5 => Mark::While,
+            6 => Mark::Brackets,
+            7 => Mark::Subscript,
+            _ => Mark::Nothing,
+        }
+    }
+}

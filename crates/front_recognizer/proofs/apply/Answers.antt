@@ -5,7 +5,7 @@ use Rattle.front_recognizer.proofs.apply.Goals as goal
 
 pub returns-in-Some : goal.returns-in-Some
 returns-in-Some c = (
-  act_pushed c.args.table.now _ c.args.height _ c.args.a _ c.in-Some.is c.popped-h.ensures c.requires.0 c.requires.1 c.put.ensures,
+  act_pushed c.args.table.now _ c.args.height _ c.args.a _ c.in-Some.is c.popped-h.ensures c.requires.0 c.requires.1 (rw c.from.ensures at c.put.ensures),
   omega (arith, popped_fits _ _ c.args.a.pops c.popped-h.ensures c.requires.1),
   long_pushed c.args.table.now _ _ _ _ _ _ c.requires.0 c.put.ensures,
 )

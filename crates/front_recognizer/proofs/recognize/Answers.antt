@@ -15,17 +15,17 @@ pub loop-i-init : goal.loop-i-init
 unfolding frames
 loop-i-init c = (omega arith, c.requires.1, λ values. stands_first _ values)
 
-pub returns-then-c-eq-REFUSED : goal.returns-then-c-eq-REFUSED
-returns-then-c-eq-REFUSED c =
+pub returns-in-Refused : goal.returns-in-Refused
+returns-in-Refused c =
     let v = c.loop-i in let a = c.advance-c.ensures in
-    (λ values. rw c.refused_at.ensures (stands_bad _ values v.i (omega arith) _ _ v.deep (v.invariant.2 values) a.0 c.if-c-eq-REFUSED.true), a.2)
+    (λ values. rw c.refused_at.ensures (stands_bad _ values v.i (omega arith) _ _ v.deep (v.invariant.2 values) a.0 c.in-Refused.is), a.2)
 
 pub loop-i-preserved : goal.loop-i-preserved
 loop-i-preserved c =
     let v = c.loop-i in let a = c.advance-c.ensures in (
       omega (arith, a.1, v.invariant.0),
       a.2,
-      λ values. rw c.deep_by-deep.ensures (stands_next _ values v.i (omega arith) _ _ v.deep (v.invariant.2 values) a.0 c.if-c-eq-REFUSED.false),
+      λ values. rw c.deep_by-deep.ensures (stands_next _ values v.i (omega arith) _ _ v.deep (v.invariant.2 values) a.0 c.in_default.not-Refused),
     )
 
 pub returns : goal.returns
