@@ -7,6 +7,7 @@ use Rattle.std.proofs.lemmas.List.Edits.{sets}
 use Rattle.std.proofs.Math.Seq.{length-sets}
 use Rattle.std.proofs.lemmas.List.{set_comm}
 use Rattle.arm_encoding.specs.declared.Instr.{Instr}
+use Rattle.translate_emit_instructions.specs.declared.Writer.{Writer}
 use Rattle.translate_rules.specs.InstructionBytes.{bytes, size}
 use Rattle.translate_rules.specs.CodeLaws.{bytes_append, size_append}
 
@@ -65,3 +66,24 @@ module _ {l l₁ l₂ l₃ : List ℕ} {i j k m n : ℕ} {xs ys : List Instr} {g
         bytes_at = u.bytes_at ∙ rw v.bytes_at (sets_comm (bytes (g ∷ [])) l₁ j (j + n) (bytes ys) (omega (arith, s)));
         end_at = v.end_at;
       }))
+
+-- ── a writer: its buffer, which stays the one that it was lent, and its place ──
+
+-- room where the writer stands
+abbrev pub Fits : Writer → List Instr → Type 0
+Fits w xs = Room w.code.now w.at xs
+
+-- the writer has written the instructions
+pub record Writes (w : Writer) (xs : List Instr) (w' : Writer) : Type 0 where
+  pub same : w'.code.ghost_name ≡ w.code.ghost_name
+  pub wrote : Wrote w.code.now w.at xs w'.code.now w'.at
+
+pub nothing : {w : Writer} → Writes w [] w
+nothing = record { same = refl; wrote = none }
+
+module _ {w w₁ : Writer} {xs : List Instr} (x : Writes w xs w₁) where
+  pub left : {ys : List Instr} → Fits w (xs ++ ys) → Fits w₁ ys
+  left h = rest x.wrote h
+
+  pub and : {ys : List Instr} {w₂ : Writer} → Writes w₁ ys w₂ → Writes w (xs ++ ys) w₂
+  and y = record { same = y.same ∙ x.same; wrote = then x.wrote y.wrote }

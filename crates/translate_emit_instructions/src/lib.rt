@@ -1,15 +1,13 @@
 // Instructions written to a buffer, one at a time or a list of them, and those that load a constant.
-// Every function takes the place to write at and returns the place after what it wrote. Buffer and place are no struct: a jump is written into a gap
-// behind the place that is reached, at a place of its own, and a struct that holds the buffer's `&mut` must say in each contract that it is still the same.
 #![tactic(auto)]
 
-ghost use Rattle.std.specs.Prelude.{[], ◌∷◌};
+ghost use Rattle.std.specs.Prelude.{◌≡◌, [], ◌∷◌};
 ghost use Rattle.translate_rules.specs.Constant.{load_constant};
-ghost use Rattle.translate_emit_instructions.specs.Write.{Room, Wrote};
+ghost use Rattle.translate_emit_instructions.specs.Write.{Room, Wrote, Fits, Writes};
 
 use arm_encoding::{Halfwords, Instr};
 
-// One instruction. If its encoding is refused nothing is written.
+// One instruction at a place, and the place after it. If its encoding is refused nothing is written.
 pub fn put(code: &mut [u8], at: usize, i: Instr) -> usize
     requires { Room code.old at (i ∷ []) }
     ensures { Wrote code.old at (i ∷ []) code.new result }
@@ -31,41 +29,53 @@ pub fn put(code: &mut [u8], at: usize, i: Instr) -> usize
     }
 }
 
-// Instructions, one after another.
-pub fn put_all(code: &mut [u8], at: usize, instructions: &[Instr]) -> usize
-    requires { Room code.old at instructions.now }
-    ensures { Wrote code.old at instructions.now code.new result }
-{
-    let mut next = at;
-    for i in instructions {
-        next = put(code, next, *i);
-    }
-    next
+// The image that is being written: the lent buffer, and the place of the next byte.
+#[derive(Drop)]
+pub struct Writer<'a> {
+    pub code: &'a mut [u8],
+    pub at: usize,
 }
 
-// Register d takes the word w.
-pub fn constant(code: &mut [u8], at: usize, d: u8, w: u32) -> usize
-    requires { Room code.old at (load_constant d w) }
-    ensures { Wrote code.old at (load_constant d w) code.new result }
-{
-    if w < 256 {
-        return put(code, at, Instr::Movi(d, w as u8));
+impl<'a> Writer<'a> {
+    pub fn new(code: &'a mut [u8]) -> Writer<'a>
+        ensures same { result.code.ghost_name ≡ code.entry.ghost_name }
+        ensures whole { (result.code.now ≡ code.old) × (result.at ≡ 0) }
+    {
+        Writer { code, at: 0 }
     }
-    let below = u32::trailing_zeros(w);
-    if 24 <= u32::leading_zeros(w) + below {
-        return put_all(
-            code,
-            at,
-            &[
+
+    pub fn put(&mut self, i: Instr)
+        requires { Fits self.old (i ∷ []) }
+        ensures { Writes self.old (i ∷ []) self.new }
+    {
+        self.at = put(self.code, self.at, i);
+    }
+
+    pub fn put_all(&mut self, instructions: &[Instr])
+        requires { Fits self.old instructions.now }
+        ensures { Writes self.old instructions.now self.new }
+    {
+        for i in instructions {
+            self.put(*i);
+        }
+    }
+
+    // Register d takes the word w.
+    pub fn constant(&mut self, d: u8, w: u32)
+        requires { Fits self.old (load_constant d w) }
+        ensures { Writes self.old (load_constant d w) self.new }
+    {
+        if w < 256 {
+            return self.put(Instr::Movi(d, w as u8));
+        }
+        let below = u32::trailing_zeros(w);
+        if 24 <= u32::leading_zeros(w) + below {
+            return self.put_all(&[
                 Instr::Movi(d, (w >> below) as u8),
                 Instr::Shli(below as u8, d, d),
-            ],
-        );
-    }
-    put_all(
-        code,
-        at,
-        &[
+            ]);
+        }
+        self.put_all(&[
             Instr::Movi(d, (w / 16777216) as u8),
             Instr::Shli(8, d, d),
             Instr::Addi(d, (w / 65536 % 256) as u8),
@@ -73,6 +83,6 @@ pub fn constant(code: &mut [u8], at: usize, d: u8, w: u32) -> usize
             Instr::Addi(d, (w / 256 % 256) as u8),
             Instr::Shli(8, d, d),
             Instr::Addi(d, (w % 256) as u8),
-        ],
-    )
+        ])
+    }
 }

@@ -1,9 +1,9 @@
--- `translate_emit_instructions::constant` meets its contract, by the loader's three cases; that the span's byte and count fit their fields is `span_byte` and `trailing_lt`.
+-- `translate_emit_instructions::Writer::constant` meets its contract, by the loader's three cases; that the span's byte and count fit their fields is `span_byte` and `trailing_lt`.
 -- Assumes nothing.
 use native.Mathlib.Omega.{arith}
 use Rattle.translate_rules.specs.CodeLaws.{constant_byte, constant_span, constant_long}
 use Rattle.translate_rules.specs.Bits.{span_byte}
-use Rattle.translate_emit_instructions.proofs.constant.Goals as goal
+use Rattle.translate_emit_instructions.proofs.Writer.constant.Goals as goal
 
 pub put-requires : goal.put-requires
 put-requires c = rw (constant_byte c.args.d c.args.w (omega arith)) at c.requires
