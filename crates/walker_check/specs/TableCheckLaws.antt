@@ -76,6 +76,8 @@ pub all_counted : (t : List ℕ) (count r n : ℕ) → Counting t count r → r 
 unfolding counted
 all_counted t count r n g e = rw (← e, g.fit, g.words) refl
 
+pub ruleset row_by_row = (refuses, words_few, counts, all_counted)
+
 -- a refusal, or so many words, by a test
 none_of : (b : Bool) (m : ℕ) → pick b (Some m) None ≡ None → b ≡ false
 none_of true m e = let z : ◌≡◌ {A = ℕ} 0 1 = cc in absurd (omega arith)
@@ -122,8 +124,12 @@ module _ (t : List ℕ) where
       let k = counted_all n e in
       rw (eq-eqb (length t % row_words) 0 a, le-leb (rows_in t) 1024 b, k.0, le-leb (data_in t) 8192 (omega (arith, k.1)), c) (ap Some k.1)
 
-  -- ── what an answer says of the table ──
+-- the reasons but the last
+pub ruleset refusals = (part_row, many_rows, no_process, bad_row)
 
+-- ── what an answer says of the table ──
+
+module _ (t : List ℕ) where
   pub checked_refused : checked t ≡ None → valid t ≡ false
   unfolding checked
   checked_refused e = none_of (valid t) (data_in t) e

@@ -98,7 +98,7 @@ fn declared(w: Row) -> u32
 }
 
 // The first n rows, each as it should be: how many words they declare.
-#[tactic(auto, using(crate::specs::TableCheckLaws::refuses, crate::specs::TableCheckLaws::words_few, crate::specs::TableCheckLaws::counts, crate::specs::TableCheckLaws::all_counted))]
+#[tactic(auto, using(crate::specs::TableCheckLaws::row_by_row))]
 fn rows_fit(table: &[u32], n: usize) -> Option<u32>
     requires { n ≤ 1024 }
     ensures { result ≡ counted table.now n }
@@ -122,7 +122,7 @@ fn ends_in_process(table: &[u32], n: usize) -> bool
 }
 
 // The words of data of a table that 36 doesn't refuse.
-#[tactic(auto, using(crate::specs::TableCheckLaws::part_row, crate::specs::TableCheckLaws::many_rows, crate::specs::TableCheckLaws::no_process, crate::specs::TableCheckLaws::bad_row))]
+#[tactic(auto, using(crate::specs::TableCheckLaws::refusals))]
 pub fn check(table: &[u32]) -> Option<u32>
     ensures { result ≡ checked table.now }
 {

@@ -163,3 +163,6 @@ module _ (t : List ℕ) (r : ℕ) (w : Row) (pile words : List ℕ) (l : List Ac
     ne_eqb w.kind layout.sequence q,
     ne_eqb w.kind layout.if i,
   )
+
+-- kind by kind
+pub ruleset processes = (opens_skip, opens_stop, opens_assign, opens_assign_element, opens_sequence, opens_if, opens_while)

@@ -63,7 +63,7 @@ fn settle(
 // ---- a row is begun ----
 
 // Row r, whose words are those of w, and which is no value's.
-#[tactic(auto, using(crate::specs::Opening::opens_skip, crate::specs::Opening::opens_stop, crate::specs::Opening::opens_assign, crate::specs::Opening::opens_assign_element, crate::specs::Opening::opens_sequence, crate::specs::Opening::opens_if, crate::specs::Opening::opens_while))]
+#[tactic(auto, using(crate::specs::Opening::processes))]
 fn open_process(items: &mut Items, w: Row, r: u32) -> Mode
     ensures { (t pile words : List ℕ) (l : List Access) → length items.old + 3 ≤ 3072
         → comes_to t result items.new pile words l ≡ process_begun t r w words l (to_do items.old) pile }

@@ -212,6 +212,16 @@ fn read_code(text: &str) -> Held {
 
 // ── what is used ──
 
+/// A law that an attribute names for a proof: `crate::specs::File::law`, or that of another crate; likewise of proofs.
+fn law_of(file: &str, word: &str) -> Option<Key> {
+    let mut parts = word.split("::");
+    let from = parts.next().filter(|from| *from != "crate").or(file.split('/').nth(1))?;
+    let folder = parts.next().filter(|folder| ["specs", "proofs"].contains(folder))?;
+    let mut parts: Vec<&str> = parts.collect();
+    let law = parts.pop()?;
+    Some((format!("crates/{from}/{folder}/{}.antt", parts.join("/")), law.to_string()))
+}
+
 /// The definitions that a word of a file may stand for.
 fn meant(files: &Files, file: &str, word: &str) -> Vec<Key> {
     if word.starts_with('.') && !file.ends_with(".rt") {
@@ -219,6 +229,9 @@ fn meant(files: &Files, file: &str, word: &str) -> Vec<Key> {
     }
     if let Some((file, rest)) = file_of(word) {
         return rest.into_iter().map(|name| (file.clone(), name)).collect();
+    }
+    if let Some(law) = law_of(file, word) {
+        return vec![law];
     }
     let held = &files[file];
     let pieces: Vec<&str> = word.split('.').collect();
