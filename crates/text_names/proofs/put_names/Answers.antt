@@ -1,15 +1,15 @@
 -- `text_names::put_names` meets its contract: a comment or a specification more, until neither stands next. Assumes nothing.
 use lib.ListN.{get_or, get_or-eq_default, length}
-use mathlib.Core.List.{List, []}
+use mathlib.Core.List.{[]}
 use mathlib.Core.Path.{◌≡◌, sym, ◌∙◌}
-use Prim.Native.Nat.{ℕ, ◌+◌, ◌<◌, ◌≤◌}
+use Prim.Native.Nat.{◌+◌, ◌<◌, ◌≤◌}
 use native.Mathlib.Omega.{arith}
-use lib.ListN.{set, length-set, length-replicate}
+use lib.ListN.{length-set, length-replicate}
 use Rattle.std.proofs.lemmas.List.{length-map}
 use Rattle.text_names.specs.declared.Declared.{Declared}
 use Rattle.front_names_judge.specs.Judge.{width_small}
 use Rattle.text_names.specs.NamesSoFar.{tokens_of, words_of, constant_first, remembered}
-use Rattle.text_names.specs.Walk.{Walking, walk_start, walk_end, walk_comment, next_room, walk_next}
+use Rattle.text_names.specs.Walk.{walk_start, walk_end, walk_comment, next_room, walk_next}
 use Rattle.text_names.proofs.put_names.Goals as goal
 
 pub loop-i-init : goal.loop-i-init
