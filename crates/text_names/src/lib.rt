@@ -183,26 +183,21 @@ fn put_names(
     let mut i: usize = 0;
     // A `while`, since a specification's kind says how many tokens it has.
     while i < kinds.len() {
-        let k = kind_at(kinds, i);
-        if k == kind::COMMENT {
-            i += 1;
-        } else {
-            if k < kind::VAR {
-                return end;
+        match kind_at(kinds, i) {
+            kind::COMMENT => i += 1,
+            k @ kind::VAR..=kind::VAL => {
+                let w = constant_word(source, kinds, places, values, &names[..count], i + 3);
+                let text = token_text(source, places, values, i + 1);
+                end = put_item(out, end, k, used, w, text);
+                names[count] = Declared {
+                    token: (i + 1) as u32,
+                    word: item_value(k, w),
+                };
+                count += 1;
+                used += item_words(k, w);
+                i += front_names_judge::width(k);
             }
-            if kind::VAL < k {
-                return end;
-            }
-            let w = constant_word(source, kinds, places, values, &names[..count], i + 3);
-            let text = token_text(source, places, values, i + 1);
-            end = put_item(out, end, k, used, w, text);
-            names[count] = Declared {
-                token: (i + 1) as u32,
-                word: item_value(k, w),
-            };
-            count += 1;
-            used += item_words(k, w);
-            i += front_names_judge::width(k);
+            _ => return end,
         }
     }
     end

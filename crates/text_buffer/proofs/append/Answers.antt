@@ -1,11 +1,11 @@
 -- `text_buffer::append` meets its contract: a full buffer takes nothing, else as much was copied as there is room for. Assumes nothing.
-use mathlib.Core.Path.{◌≡◌, refl, sym, ap, ◌∙◌}
+use mathlib.Core.Path.{◌≡◌, ap, ◌∙◌}
 use Prim.Native.Nat.{ℕ, ◌+◌, ◌-◌}
-use mathlib.Core.List.{List, ◌++◌}
+use mathlib.Core.List.{◌++◌}
 use native.Mathlib.Omega.{arith}
 use lib.ListN.{take, drop}
 use lib.Seq.{drop-drop}
-use Rattle.text_buffer.specs.Buffer.{left, placed}
+use Rattle.text_buffer.specs.Buffer.{left}
 use Rattle.text_buffer.specs.BufferLaws.{full, copied}
 use Rattle.text_buffer.proofs.append.Goals as goal
 

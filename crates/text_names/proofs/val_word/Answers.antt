@@ -1,7 +1,7 @@
 -- `text_names::val_word` meets its contract, from the latest name to the first. Assumes nothing.
-use mathlib.Core.Path.{◌≡◌, sym, ap, ◌∙◌}
+use mathlib.Core.Path.{◌≡◌, sym, ◌∙◌}
 use mathlib.Core.Bool.{true, false}
-use Prim.Native.Nat.{ℕ, ◌-◌}
+use Prim.Native.Nat.{◌-◌}
 use lib.ListN.{get_or, get_or-map}
 use Rattle.x_names.specs.Scope.{same}
 use Rattle.front_names_table.specs.View.{text_at}

@@ -32,7 +32,9 @@ returns c =
     let low : left ≤ at = omega (arith, at-since.ensures.within, length-take at s) in
     let is-off = at_cut.ensures.0 in
     let is_end = at-shown-end.ensures ∙ ap (λ (k : ℕ). min (at - left + k + spec.width) (at + at-until.result)) is-off in
-    let part = shown_part s x.place at left at-until.result end at-within.ensures (at-since.ensures.value ∙ since_counted (take at s)) (at-until.ensures.value ∙ until_counted (take (length s - at) (drop at s))) low is_end in
+    let is-left = at-since.ensures.value ∙ since_counted (take at s) in
+    let is-right = at-until.ensures.value ∙ until_counted (take (length s - at) (drop at s)) in
+    let part = shown_part s x.place at left at-until.result end at-within.ensures is-left is-right low is_end in
     let all = joined e (map spec.shown (take (end - (at - left + off)) (drop (at - left + off) s))) (10 ∷ []) _ _ at-put-shown.ensures at-put.ensures in
     all ∙ ap (λ (l : List ℕ). fitted (l ++ (map spec.shown (take (end - (at - left + off)) (drop (at - left + off) s)) ++ (10 ∷ [])))) at-empty.ensures
     ∙ ap (λ (k : ℕ). fitted (map spec.shown (take (end - (at - left + k)) (drop (at - left + k) s)) ++ (10 ∷ []))) is-off

@@ -2,12 +2,11 @@
 use mathlib.Core.Path.{◌≡◌, refl, ap, ◌∙◌}
 use mathlib.Core.List.{List, ◌++◌}
 use Prim.Native.Nat.{ℕ, ◌+◌}
-use native.Mathlib.Omega.{arith}
 use native.Mathlib.Numerals.{add-one}
 use lib.ListN.{get_or}
 use Rattle.text_lines.specs.Text.{written}
 use Rattle.text_buffer.specs.Buffer.{placed}
-use Rattle.text_buffer.specs.BufferLaws.{none, then, kept}
+use Rattle.text_buffer.specs.BufferLaws.{none, then}
 use Rattle.text_values.specs.Values.{subscripted, element_line, element_lines}
 use Rattle.text_values.proofs.elements.Goals as goal
 

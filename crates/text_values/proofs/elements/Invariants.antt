@@ -1,6 +1,5 @@
 -- The loop's invariant of `text_values::elements`: the lines of the elements before `i` are put. Assumes nothing.
 use mathlib.Core.Path.{◌≡◌}
-use lib.ListN.{length}
 use Rattle.text_buffer.specs.Buffer.{left, placed}
 use Rattle.text_values.specs.Values.{element_lines}
 use Rattle.text_values.proofs.elements.Given as goal
