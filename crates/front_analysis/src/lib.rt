@@ -14,7 +14,7 @@ ghost use Rattle.front_analysis.specs.Named.{Ready, named_as};
 
 use front_names_bind::bind;
 use front_names_resolve::resolve;
-use front_names_table::{Names, Tokens, number};
+use front_names_table::{Names, Tokens};
 use front_read_program::program;
 use front_recognizer::{Fault, recognize};
 use x_program::row;
@@ -75,11 +75,7 @@ fn names(
 fn place_of(places: &[u32], i: usize, end: u32) -> u32
     ensures { result ≡ pick (ltb i (length places.now)) (get_or places.now i 0) end }
 {
-    if i < places.len() {
-        number(places, i)
-    } else {
-        end
-    }
+    places.get(i).copied().unwrap_or(end)
 }
 
 // The tokens are read into rows, the depth is tested, the names are resolved. `Bounded`, which the recognizer says, bounds the readers' stack.

@@ -101,7 +101,7 @@ fn complaint(kind: u32, sort: Sort) -> Option<Reason>
 }
 
 // The same at a place.
-#[tactic(auto, using(x_tokens::specs::Refusals::not_zero))]
+#[tactic(auto, using(x_tokens::specs::TokenLaws::not_zero))]
 fn complaint_at(reason: Option<Reason>, place: u32) -> Option<Refusal>
     ensures { verdict result ≡ judged_by (numbered reason) place }
 {

@@ -1,5 +1,5 @@
 -- The refusals of a translation, by number. Definitions: document 01, "Limits and refusals".
-use Rattle.std.specs.Prelude.{◌≡◌, refl, false, ℕ, eqb}
+use Rattle.std.specs.Prelude.{ℕ}
 use Rattle.x_tokens.specs.declared.refusal.Reason.{Reason}
 use Rattle.x_tokens.specs.declared.refusal.Reason.TheVariants.{LongSource, BrokenToken, LargeNumber, LongName, ManyTokens, Ungrammatical, DeepProgram}
 use Rattle.x_tokens.specs.declared.refusal.Reason.TheVariants.{NotDeclared, DeclaredTwice, WrongKind, BadLength, TooMuch, ShortTable, ShortCode}
@@ -76,20 +76,3 @@ number BadLength = bad_length
 number TooMuch = too_much
 number ShortTable = short_table
 number ShortCode = short_code
-
--- none is 0, which says that a source is accepted
-pub not_zero : (r : Reason) → eqb (number r) 0 ≡ false
-not_zero LongSource = refl
-not_zero BrokenToken = refl
-not_zero LargeNumber = refl
-not_zero LongName = refl
-not_zero ManyTokens = refl
-not_zero Ungrammatical = refl
-not_zero DeepProgram = refl
-not_zero NotDeclared = refl
-not_zero DeclaredTwice = refl
-not_zero WrongKind = refl
-not_zero BadLength = refl
-not_zero TooMuch = refl
-not_zero ShortTable = refl
-not_zero ShortCode = refl

@@ -7,6 +7,7 @@ use Prim.Native.Nat.{ℕ, zero, suc, ◌+◌, ◌-◌, ◌<◌, ◌≤◌}
 use native.Mathlib.Omega.{arith}
 use Rattle.std.proofs.Math.ListN.{get_or}
 use Rattle.std.proofs.Math.Seq.{drop-nil, get_or-set_same, get_or-set_other}
+use Rattle.std.specs.Prelude.{false, eqb}
 use Rattle.std.proofs.lemmas.Bool.{lt-leb}
 use Rattle.x_tokens.specs.Lexemes.{lexeme}
 use Rattle.x_tokens.specs.TokenList.{Entry, Outcome, read, refused, also, taken, scan, outcome, entries}
@@ -15,6 +16,8 @@ use Rattle.x_tokens.specs.Refusals as refusal
 use Rattle.x_tokens.specs.LexemeLaws.{Fits, Good, lexeme_good}
 use Rattle.x_tokens.specs.declared.Lexeme.{Lexeme}
 use Rattle.x_tokens.specs.declared.refusal.Reason.{Reason}
+use Rattle.x_tokens.specs.declared.refusal.Reason.TheVariants.{LongSource, BrokenToken, LargeNumber, LongName, ManyTokens, Ungrammatical, DeepProgram}
+use Rattle.x_tokens.specs.declared.refusal.Reason.TheVariants.{NotDeclared, DeclaredTwice, WrongKind, BadLength, TooMuch, ShortTable, ShortCode}
 use Rattle.x_tokens.specs.declared.Lexeme.TheVariants.{Separator, Token, Broken}
 
 -- tokens before what is to come
@@ -101,3 +104,20 @@ outcome_short s h = rw (le-leb (length s) 16384 h)
 pub outcome_long : (s : List ℕ) → 16384 < length s → outcome s ≡ refused refusal.long_source 0
 unfolding outcome
 outcome_long s h = rw (lt-leb (length s) 16384 h)
+
+-- none is 0, which says that a source is accepted
+pub not_zero : (r : Reason) → eqb (refusal.number r) 0 ≡ false
+not_zero LongSource = refl
+not_zero BrokenToken = refl
+not_zero LargeNumber = refl
+not_zero LongName = refl
+not_zero ManyTokens = refl
+not_zero Ungrammatical = refl
+not_zero DeepProgram = refl
+not_zero NotDeclared = refl
+not_zero DeclaredTwice = refl
+not_zero WrongKind = refl
+not_zero BadLength = refl
+not_zero TooMuch = refl
+not_zero ShortTable = refl
+not_zero ShortCode = refl

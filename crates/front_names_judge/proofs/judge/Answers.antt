@@ -2,7 +2,7 @@
 -- Assumes nothing.
 use Rattle.x_spelling.specs.Kinds as kind
 use Rattle.x_tokens.specs.Refusals as refusal
-use Rattle.x_tokens.specs.Refusals.{not_zero}
+use Rattle.x_tokens.specs.TokenLaws.{not_zero}
 use Rattle.x_tokens.specs.declared.refusal.Reason.{Reason}
 use Rattle.x_names.specs.Scope.{Meaning}
 use Rattle.x_names.specs.Complaints.{is_known, when}
