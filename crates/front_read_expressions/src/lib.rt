@@ -4,7 +4,7 @@
 ghost use Rattle.std.specs.Prelude.{◌≡◌, ◌+◌, ◌-◌, ◌*◌, ◌<◌, ◌≤◌, get_or, eqb, false, Ok};
 ghost use Rattle.std.proofs.lemmas.List.Edits.{sets};
 ghost use Rattle.arm_word.specs.Choice.{pick};
-ghost use Rattle.x_spelling.specs.Kinds as tokens;
+ghost use Rattle.x_spelling.specs.Kinds as kinds;
 ghost use Rattle.x_program.specs.Layout.{row_words};
 ghost use Rattle.x_grammar.specs.Grammar.{is_monadic, is_diadic, is_associative};
 ghost use Rattle.x_grammar.specs.RawRows.{row, monadic_number};
@@ -20,6 +20,13 @@ pub struct Extent {
     pub rows: usize,
     pub depth: usize,
     pub deepest: usize,
+}
+
+// The tokens by their arrays: kinds, and values.
+#[derive(Clone, Copy)]
+pub struct Tokens<'a> {
+    pub kinds: &'a [u8],
+    pub values: &'a [u32],
 }
 
 // The token that no program continues with.
@@ -134,27 +141,26 @@ fn goes_on(o: u8, k: u8) -> bool
 // An expression at token i; its rows are from row n on.
 #[cycle(chain_expression_operand)]
 pub fn expression(
-    kinds: &[u8],
-    values: &[u32],
+    tokens: Tokens,
     table: &mut [u32; 4096],
     n: usize,
     i: usize,
 ) -> Result<Extent, Ungrammatical>
-    requires { Fit kinds.now values.now n i }
-    ensures { Reads expression_form kinds.now values.now i n table.old result table.new }
+    requires { Fit tokens.kinds.now tokens.values.now n i }
+    ensures { Reads expression_form tokens.entry.kinds.now tokens.entry.values.now i n table.old result table.new }
 {
-    let k = kind_at(kinds, i);
+    let k = kind_at(tokens.kinds, i);
     if is_monadic(k) {
-        let under = operand(kinds, values, table, n, i + 1)?;
+        let under = operand(tokens, table, n, i + 1)?;
         let whole = add_row(table, under, row::MONADIC, monadic_number(k));
         return Ok(whole.deepen(0, 0, 0, 1));
     }
-    let first = operand(kinds, values, table, n, i)?;
-    let o = kind_at(kinds, first.next);
+    let first = operand(tokens, table, n, i)?;
+    let o = kind_at(tokens.kinds, first.next);
     if !is_diadic(o) {
         return Ok(first);
     }
-    let rest = chain(kinds, values, table, o, first.rows, first.next + 1)?;
+    let rest = chain(tokens, table, o, first.rows, first.next + 1)?;
     let whole = add_row_of_two(
         table,
         rest,
@@ -168,21 +174,20 @@ pub fn expression(
 // The operands after an operator o, grouped to the right.
 #[cycle(chain_expression_operand)]
 fn chain(
-    kinds: &[u8],
-    values: &[u32],
+    tokens: Tokens,
     table: &mut [u32; 4096],
     o: u8,
     n: usize,
     i: usize,
 ) -> Result<Extent, Ungrammatical>
-    requires { (Fit kinds.now values.now n i) × (tokens.operator_base < o) }
-    ensures { Reads (chain_form o) kinds.now values.now i n table.old result table.new }
+    requires { (Fit tokens.kinds.now tokens.values.now n i) × (kinds.operator_base < o) }
+    ensures { Reads (chain_form o) tokens.entry.kinds.now tokens.entry.values.now i n table.old result table.new }
 {
-    let first = operand(kinds, values, table, n, i)?;
-    if !goes_on(o, kind_at(kinds, first.next)) {
+    let first = operand(tokens, table, n, i)?;
+    if !goes_on(o, kind_at(tokens.kinds, first.next)) {
         return Ok(first);
     }
-    let rest = chain(kinds, values, table, o, first.rows, first.next + 1)?;
+    let rest = chain(tokens, table, o, first.rows, first.next + 1)?;
     let joined = add_row_of_two(
         table,
         rest,
@@ -196,14 +201,13 @@ fn chain(
 // A number, a variable, an element, or an expression in brackets.
 #[cycle(chain_expression_operand)]
 fn operand(
-    kinds: &[u8],
-    values: &[u32],
+    tokens: Tokens,
     table: &mut [u32; 4096],
     n: usize,
     i: usize,
 ) -> Result<Extent, Ungrammatical>
-    requires { Fit kinds.now values.now n i }
-    ensures { Reads operand_form kinds.now values.now i n table.old result table.new }
+    requires { Fit tokens.kinds.now tokens.values.now n i }
+    ensures { Reads operand_form tokens.entry.kinds.now tokens.entry.values.now i n table.old result table.new }
 {
     let one_token = Extent {
         next: i + 1,
@@ -211,15 +215,15 @@ fn operand(
         depth: 0,
         deepest: 1,
     };
-    let k = kind_at(kinds, i);
+    let k = kind_at(tokens.kinds, i);
     if k == kind::NUMBER {
-        put(table, n, row::NUMBER, values[i], 0, 0);
+        put(table, n, row::NUMBER, tokens.values[i], 0, 0);
         return Ok(one_token);
     }
     if k == kind::NAME {
-        if kind_at(kinds, i + 1) == kind::OPEN_SUBSCRIPT {
-            let e = expression(kinds, values, table, n, i + 2)?;
-            let subscript = close(kinds, e, kind::CLOSE_SUBSCRIPT)?;
+        if kind_at(tokens.kinds, i + 1) == kind::OPEN_SUBSCRIPT {
+            let e = expression(tokens, table, n, i + 2)?;
+            let subscript = close(tokens.kinds, e, kind::CLOSE_SUBSCRIPT)?;
             let element = add_row(table, subscript, row::ELEMENT, i as u32);
             return Ok(element.deepen(0, 0, 0, 1));
         }
@@ -227,8 +231,8 @@ fn operand(
         return Ok(one_token);
     }
     if k == kind::OPEN_BRACKET {
-        let inner = expression(kinds, values, table, n, i + 1)?;
-        let bracketed = close(kinds, inner, kind::CLOSE_BRACKET)?;
+        let inner = expression(tokens, table, n, i + 1)?;
+        let bracketed = close(tokens.kinds, inner, kind::CLOSE_BRACKET)?;
         return Ok(bracketed.deepen(0, 0, 0, 1));
     }
     Err(Ungrammatical { token: i })

@@ -2,32 +2,31 @@
 #![tactic(auto)]
 
 ghost use Rattle.std.specs.Prelude.{◌≡◌, ◌+◌, ◌<◌, ◌≤◌, length, get_or};
-ghost use Rattle.x_spelling.specs.Kinds as tokens;
+ghost use Rattle.x_spelling.specs.Kinds as token_kinds;
 ghost use Rattle.front_read_expressions.specs.Reads.{Reads, Fit};
 ghost use Rattle.front_read_processes.specs.Forms.{process_form, list_form, Comments};
 ghost use Rattle.front_read_processes.specs.Lists.{Kept, joints};
 
 use front_read_expressions::{
-    Extent, Ungrammatical, add_row, add_row_of_two, close, expression, kind_at, put,
+    Extent, Tokens, Ungrammatical, add_row, add_row_of_two, close, expression, kind_at, put,
 };
 use x_program::row;
 use x_spelling::kind;
 
 // `n [ e ] := e` at token i.
 fn element_assignment(
-    kinds: &[u8],
-    values: &[u32],
+    tokens: Tokens,
     table: &mut [u32; 4096],
     n: usize,
     i: usize,
 ) -> Result<Extent, Ungrammatical>
-    requires { (Fit kinds.now values.now n i) × (get_or kinds.now i 0 ≡ tokens.name) × (get_or kinds.now (i + 1) 0 ≡ tokens.open_subscript) }
-    ensures { Reads process_form kinds.now values.now i n table.old result table.new }
+    requires { (Fit tokens.kinds.now tokens.values.now n i) × (get_or tokens.kinds.now i 0 ≡ token_kinds.name) × (get_or tokens.kinds.now (i + 1) 0 ≡ token_kinds.open_subscript) }
+    ensures { Reads process_form tokens.entry.kinds.now tokens.entry.values.now i n table.old result table.new }
 {
-    let e = expression(kinds, values, table, n, i + 2)?;
-    let subscript = close(kinds, e, kind::CLOSE_SUBSCRIPT)?;
-    let target = close(kinds, subscript, kind::BECOMES)?;
-    let value = expression(kinds, values, table, target.rows, target.next)?;
+    let e = expression(tokens, table, n, i + 2)?;
+    let subscript = close(tokens.kinds, e, kind::CLOSE_SUBSCRIPT)?;
+    let target = close(tokens.kinds, subscript, kind::BECOMES)?;
+    let value = expression(tokens, table, target.rows, target.next)?;
     let whole = add_row_of_two(
         table,
         value,
@@ -40,22 +39,21 @@ fn element_assignment(
 
 // An assignment to the name at token i.
 fn assignment(
-    kinds: &[u8],
-    values: &[u32],
+    tokens: Tokens,
     table: &mut [u32; 4096],
     n: usize,
     i: usize,
 ) -> Result<Extent, Ungrammatical>
-    requires { (Fit kinds.now values.now n i) × (get_or kinds.now i 0 ≡ tokens.name) }
-    ensures { Reads process_form kinds.now values.now i n table.old result table.new }
+    requires { (Fit tokens.kinds.now tokens.values.now n i) × (get_or tokens.kinds.now i 0 ≡ token_kinds.name) }
+    ensures { Reads process_form tokens.entry.kinds.now tokens.entry.values.now i n table.old result table.new }
 {
-    match kind_at(kinds, i + 1) {
+    match kind_at(tokens.kinds, i + 1) {
         kind::BECOMES => {
-            let value = expression(kinds, values, table, n, i + 2)?;
+            let value = expression(tokens, table, n, i + 2)?;
             let whole = add_row(table, value, row::ASSIGN, i as u32);
             Ok(whole.deepen(0, 0, 1, 0))
         }
-        kind::OPEN_SUBSCRIPT => element_assignment(kinds, values, table, n, i),
+        kind::OPEN_SUBSCRIPT => element_assignment(tokens, table, n, i),
         _ => Err(Ungrammatical { token: i + 1 }),
     }
 }
@@ -63,7 +61,7 @@ fn assignment(
 // The first token from i on that is no comment.
 fn past_comments(kinds: &[u8], i: usize) -> usize
     requires { i ≤ length kinds.now }
-    ensures { (Comments kinds.now i result) × (get_or kinds.now result 0 ≡ tokens.comment → ⊥) }
+    ensures { (Comments kinds.now i result) × (get_or kinds.now result 0 ≡ token_kinds.comment → ⊥) }
 {
     for j in i..kinds.len() {
         if kinds[j] != kind::COMMENT {
@@ -103,25 +101,24 @@ fn join(table: &mut [u32; 4096], pending: &[u16; 1024], top: usize, count: usize
 // A process at token i; its rows are from row n on. Lists around it use `pending` below `top`.
 #[cycle(braces_conditional_list_process_repetition)]
 pub fn process(
-    kinds: &[u8],
-    values: &[u32],
+    tokens: Tokens,
     table: &mut [u32; 4096],
     pending: &mut [u16; 1024],
     n: usize,
     i: usize,
     top: usize,
 ) -> Result<Extent, Ungrammatical>
-    requires { (Fit kinds.now values.now n i) × (top ≤ i) }
-    ensures { (Reads process_form kinds.now values.now i n table.old result table.new) × (Kept pending.old pending.new top) }
+    requires { (Fit tokens.kinds.now tokens.values.now n i) × (top ≤ i) }
+    ensures { (Reads process_form tokens.entry.kinds.now tokens.entry.values.now i n table.old result table.new) × (Kept pending.old pending.new top) }
 {
-    let j = past_comments(kinds, i);
+    let j = past_comments(tokens.kinds, i);
     let one_token = Extent {
         next: j + 1,
         rows: n + 1,
         depth: 1,
         deepest: 0,
     };
-    match kind_at(kinds, j) {
+    match kind_at(tokens.kinds, j) {
         kind::SKIP => {
             put(table, n, row::SKIP, 0, 0, 0);
             Ok(one_token)
@@ -130,10 +127,10 @@ pub fn process(
             put(table, n, row::STOP, 0, 0, 0);
             Ok(one_token)
         }
-        kind::NAME => assignment(kinds, values, table, n, j),
-        kind::OPEN_BRACE => braces(kinds, values, table, pending, n, j, top),
-        kind::IF => conditional(kinds, values, table, pending, n, j, top),
-        kind::WHILE => repetition(kinds, values, table, pending, n, j, top),
+        kind::NAME => assignment(tokens, table, n, j),
+        kind::OPEN_BRACE => braces(tokens, table, pending, n, j, top),
+        kind::IF => conditional(tokens, table, pending, n, j, top),
+        kind::WHILE => repetition(tokens, table, pending, n, j, top),
         _ => Err(Ungrammatical { token: j }),
     }
 }
@@ -141,18 +138,17 @@ pub fn process(
 // Braces, which open at token i.
 #[cycle(braces_conditional_list_process_repetition)]
 fn braces(
-    kinds: &[u8],
-    values: &[u32],
+    tokens: Tokens,
     table: &mut [u32; 4096],
     pending: &mut [u16; 1024],
     n: usize,
     i: usize,
     top: usize,
 ) -> Result<Extent, Ungrammatical>
-    requires { (Fit kinds.now values.now n i) × (get_or kinds.now i 0 ≡ tokens.open_brace) × (top ≤ i) }
-    ensures { (Reads process_form kinds.now values.now i n table.old result table.new) × (Kept pending.old pending.new top) }
+    requires { (Fit tokens.kinds.now tokens.values.now n i) × (get_or tokens.kinds.now i 0 ≡ token_kinds.open_brace) × (top ≤ i) }
+    ensures { (Reads process_form tokens.entry.kinds.now tokens.entry.values.now i n table.old result table.new) × (Kept pending.old pending.new top) }
 {
-    if kind_at(kinds, i + 1) == kind::CLOSE_BRACE {
+    if kind_at(tokens.kinds, i + 1) == kind::CLOSE_BRACE {
         put(table, n, row::SKIP, 0, 0, 0);
         return Ok(Extent {
             next: i + 2,
@@ -161,23 +157,22 @@ fn braces(
             deepest: 0,
         });
     }
-    let processes = list(kinds, values, table, pending, n, i + 1, top)?;
+    let processes = list(tokens, table, pending, n, i + 1, top)?;
     Ok(processes.deepen(0, 0, 1, 0))
 }
 
 // The processes from token i on, up to the closing brace, grouped to the right: each one's last row waits in `pending` until its joint is written, after the list.
 #[cycle(braces_conditional_list_process_repetition)]
 fn list(
-    kinds: &[u8],
-    values: &[u32],
+    tokens: Tokens,
     table: &mut [u32; 4096],
     pending: &mut [u16; 1024],
     n: usize,
     i: usize,
     top: usize,
 ) -> Result<Extent, Ungrammatical>
-    requires { (Fit kinds.now values.now n i) × (top ≤ i) }
-    ensures { (Reads list_form kinds.now values.now i n table.old result table.new) × (Kept pending.old pending.new top) }
+    requires { (Fit tokens.kinds.now tokens.values.now n i) × (top ≤ i) }
+    ensures { (Reads list_form tokens.entry.kinds.now tokens.entry.values.now i n table.old result table.new) × (Kept pending.old pending.new top) }
 {
     // Up to the process that is read next; the joints of the processes so far are yet to be written.
     let mut so_far = Extent {
@@ -189,8 +184,7 @@ fn list(
     let mut count: usize = 0;
     loop {
         let part = process(
-            kinds,
-            values,
+            tokens,
             table,
             pending,
             so_far.rows,
@@ -199,7 +193,7 @@ fn list(
         )?;
         let depth = so_far.depth.max(part.depth);
         let deepest = so_far.deepest.max(part.deepest);
-        match kind_at(kinds, part.next) {
+        match kind_at(tokens.kinds, part.next) {
             kind::CLOSE_BRACE => {
                 join(table, pending, top, count, part.rows);
                 return Ok(Extent {
@@ -227,30 +221,21 @@ fn list(
 // `if e then p else p` at token i.
 #[cycle(braces_conditional_list_process_repetition)]
 fn conditional(
-    kinds: &[u8],
-    values: &[u32],
+    tokens: Tokens,
     table: &mut [u32; 4096],
     pending: &mut [u16; 1024],
     n: usize,
     i: usize,
     top: usize,
 ) -> Result<Extent, Ungrammatical>
-    requires { (Fit kinds.now values.now n i) × (get_or kinds.now i 0 ≡ tokens.if) × (top ≤ i) }
-    ensures { (Reads process_form kinds.now values.now i n table.old result table.new) × (Kept pending.old pending.new top) }
+    requires { (Fit tokens.kinds.now tokens.values.now n i) × (get_or tokens.kinds.now i 0 ≡ token_kinds.if) × (top ≤ i) }
+    ensures { (Reads process_form tokens.entry.kinds.now tokens.entry.values.now i n table.old result table.new) × (Kept pending.old pending.new top) }
 {
-    let e = expression(kinds, values, table, n, i + 1)?;
-    let condition = close(kinds, e, kind::THEN)?;
-    let p = process(
-        kinds,
-        values,
-        table,
-        pending,
-        condition.rows,
-        condition.next,
-        top,
-    )?;
-    let then = close(kinds, p, kind::ELSE)?;
-    let other = process(kinds, values, table, pending, then.rows, then.next, top)?;
+    let e = expression(tokens, table, n, i + 1)?;
+    let condition = close(tokens.kinds, e, kind::THEN)?;
+    let p = process(tokens, table, pending, condition.rows, condition.next, top)?;
+    let then = close(tokens.kinds, p, kind::ELSE)?;
+    let other = process(tokens, table, pending, then.rows, then.next, top)?;
     let whole = add_row_of_two(
         table,
         other,
@@ -264,28 +249,19 @@ fn conditional(
 // `while e do p` at token i.
 #[cycle(braces_conditional_list_process_repetition)]
 fn repetition(
-    kinds: &[u8],
-    values: &[u32],
+    tokens: Tokens,
     table: &mut [u32; 4096],
     pending: &mut [u16; 1024],
     n: usize,
     i: usize,
     top: usize,
 ) -> Result<Extent, Ungrammatical>
-    requires { (Fit kinds.now values.now n i) × (get_or kinds.now i 0 ≡ tokens.while) × (top ≤ i) }
-    ensures { (Reads process_form kinds.now values.now i n table.old result table.new) × (Kept pending.old pending.new top) }
+    requires { (Fit tokens.kinds.now tokens.values.now n i) × (get_or tokens.kinds.now i 0 ≡ token_kinds.while) × (top ≤ i) }
+    ensures { (Reads process_form tokens.entry.kinds.now tokens.entry.values.now i n table.old result table.new) × (Kept pending.old pending.new top) }
 {
-    let e = expression(kinds, values, table, n, i + 1)?;
-    let condition = close(kinds, e, kind::DO)?;
-    let repeated = process(
-        kinds,
-        values,
-        table,
-        pending,
-        condition.rows,
-        condition.next,
-        top,
-    )?;
+    let e = expression(tokens, table, n, i + 1)?;
+    let condition = close(tokens.kinds, e, kind::DO)?;
+    let repeated = process(tokens, table, pending, condition.rows, condition.next, top)?;
     let whole = add_row(table, repeated, row::WHILE, (condition.rows - 1) as u32);
     Ok(whole.deepen(0, condition.deepest, 1, 0))
 }

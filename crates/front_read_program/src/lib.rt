@@ -9,7 +9,7 @@ ghost use Rattle.x_grammar.specs.TokenArrays.{unread};
 ghost use Rattle.front_read_program.specs.Answer.{answer, Written};
 ghost use Rattle.front_read_program.specs.SpecificationReaders.{«ReadsSpecification», «ReadsFront», ended};
 
-use front_read_expressions::{Ungrammatical, kind_at};
+use front_read_expressions::{Tokens, Ungrammatical, kind_at};
 use front_read_processes::process;
 use x_spelling::kind;
 
@@ -155,15 +155,8 @@ pub fn program(
 {
     let mut pending = [0u16; 1024];
     let front = specifications(kinds)?;
-    let p = process(
-        kinds,
-        values,
-        table,
-        &mut pending,
-        front.rows,
-        front.process,
-        0,
-    )?;
+    let tokens = Tokens { kinds, values };
+    let p = process(tokens, table, &mut pending, front.rows, front.process, 0)?;
     if p.next < kinds.len() {
         return Err(Ungrammatical { token: p.next });
     }

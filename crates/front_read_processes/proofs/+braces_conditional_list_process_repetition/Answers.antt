@@ -214,7 +214,7 @@ pub list-loop-part-preserved : goal.list-loop-part-preserved
 list-loop-part-preserved t c =
     let f = c.requires.0 in let v = c.loop-part in let z = v.invariant in let h = c.in_ok-part.ensures in let w = h.0.0 in
     let e = sym c.kind_at.ensures ∙ c.in-10.is in
-    let l = inside c.args.kinds.now c.in_ok-part.part.next kind.semicolon e (omega arith) in (
+    let l = inside c.args.tokens.kinds.now c.in_ok-part.part.next kind.semicolon e (omega arith) in (
       omega arith,
       omega arith,
       omega arith,

@@ -6,25 +6,25 @@ use Rattle.front_read_processes.specs.Lists.{Kept, Resumes}
 use Rattle.front_read_processes.proofs.+braces_conditional_list_process_repetition.Given as goal
 
 abbrev pub decreases-braces : goal.decreases-braces
-decreases-braces l = 3 * (length l.kinds.now - l.i) + 1
+decreases-braces l = 3 * (length l.tokens.kinds.now - l.i) + 1
 
 abbrev pub decreases-conditional : goal.decreases-conditional
-decreases-conditional l = 3 * (length l.kinds.now - l.i) + 1
+decreases-conditional l = 3 * (length l.tokens.kinds.now - l.i) + 1
 
 abbrev pub decreases-list : goal.decreases-list
-decreases-list l = 3 * (length l.kinds.now - l.i) + 3
+decreases-list l = 3 * (length l.tokens.kinds.now - l.i) + 3
 
 abbrev pub decreases-process : goal.decreases-process
-decreases-process l = 3 * (length l.kinds.now - l.i) + 2
+decreases-process l = 3 * (length l.tokens.kinds.now - l.i) + 2
 
 abbrev pub decreases-repetition : goal.decreases-repetition
-decreases-repetition l = 3 * (length l.kinds.now - l.i) + 1
+decreases-repetition l = 3 * (length l.tokens.kinds.now - l.i) + 1
 
 abbrev pub invariant-list-loop-part : goal.invariant-list-loop-part
 invariant-list-loop-part l =
-    (l.i ≤ l.so_far.next) × (l.so_far.next ≤ length l.kinds) × (l.so_far.rows + l.count ≤ l.so_far.next) × (l.top + l.count ≤ l.so_far.next)
+    (l.i ≤ l.so_far.next) × (l.so_far.next ≤ length l.tokens.kinds.now) × (l.so_far.rows + l.count ≤ l.so_far.next) × (l.top + l.count ≤ l.so_far.next)
     × (Kept l.initial.pending l.pending l.top)
-    × (Resumes l.kinds l.values l.i l.n l.initial.table l.so_far.next l.so_far.rows l.table l.pending l.top l.count l.so_far.depth l.so_far.deepest)
+    × (Resumes l.tokens.kinds.now l.tokens.values.now l.i l.n l.initial.table l.so_far.next l.so_far.rows l.table l.pending l.top l.count l.so_far.depth l.so_far.deepest)
 
 abbrev pub decreases-list-loop-part : goal.decreases-list-loop-part
-decreases-list-loop-part l = length l.kinds - l.so_far.next
+decreases-list-loop-part l = length l.tokens.kinds.now - l.so_far.next
