@@ -14,12 +14,12 @@ ghost use Rattle.front_analysis.specs.Named.{Ready, named_as};
 
 use front_names_bind::bind;
 use front_names_resolve::resolve;
-use front_names_table::{Names, Tokens};
+use front_names_table::Names;
 use front_read_program::program;
 use front_recognizer::{Fault, recognize};
 use x_program::row;
 use x_tokens::refusal::{Reason, Refusal};
-use x_tokens::tokens;
+use x_tokens::{TokenArrays, tokens};
 
 // Refusal 7: process depth and N.
 const DEPTH_LIMIT: usize = 32;
@@ -48,7 +48,7 @@ fn whole(reason: Reason) -> Refusal
 // The names of a program whose raw rows stand in the table: `start` is the process's first token.
 fn names(
     source: &[u8],
-    tokens: Tokens,
+    tokens: TokenArrays,
     table: &mut [u32; 4096],
     start: usize,
     rows: usize,
@@ -79,7 +79,7 @@ fn place_of(places: &[u32], i: usize, end: u32) -> u32
 }
 
 // The tokens are read into rows, the depth is tested, the names are resolved. `Bounded`, which the recognizer says, bounds the readers' stack.
-fn read(source: &[u8], tokens: Tokens, table: &mut [u32; 4096]) -> Result<Accepted, Refusal>
+fn read(source: &[u8], tokens: TokenArrays, table: &mut [u32; 4096]) -> Result<Accepted, Refusal>
     requires { (length source.now ≤ 16384)
         × ((length tokens.kinds.now ≤ 1024)
         × ((length tokens.places.now ≡ length tokens.kinds.now)
@@ -87,7 +87,7 @@ fn read(source: &[u8], tokens: Tokens, table: &mut [u32; 4096]) -> Result<Accept
         × Bounded (reads (unread tokens.kinds.now tokens.values.now 0))))) }
     ensures { Parses source.now (scanned.entries tokens.entry.kinds.now tokens.entry.places.now tokens.entry.values.now 0 (length tokens.entry.kinds.now)) table.new result }
 {
-    match program(tokens.kinds, tokens.values, table) {
+    match program(tokens, table) {
         Err(x) => Err(Refusal {
             reason: Reason::Ungrammatical,
             place: place_of(tokens.places, x.token, source.len() as u32),
@@ -102,7 +102,7 @@ fn read(source: &[u8], tokens: Tokens, table: &mut [u32; 4096]) -> Result<Accept
 }
 
 // The tokens are recognized, and read where they are a program.
-fn parse(source: &[u8], tokens: Tokens, table: &mut [u32; 4096]) -> Result<Accepted, Refusal>
+fn parse(source: &[u8], tokens: TokenArrays, table: &mut [u32; 4096]) -> Result<Accepted, Refusal>
     requires { (length source.now ≤ 16384)
         × ((length tokens.kinds.now ≤ 1024)
         × ((length tokens.places.now ≡ length tokens.kinds.now) × (length tokens.values.now ≡ length tokens.kinds.now))) }
@@ -138,7 +138,7 @@ pub fn analyse(
     if code_bytes < CODE_PER_TOKEN * n + CODE_MORE {
         return Err(whole(Reason::ShortCode));
     }
-    let tokens = Tokens {
+    let tokens = TokenArrays {
         kinds: &kinds[..n],
         places: &places[..n],
         values: &values[..n],

@@ -10,9 +10,10 @@ ghost use Rattle.front_names_bind.specs.Going.{scope_of, Puts, EntersAny, Fills}
 ghost use Rattle.front_names_judge.specs.Judge.{constant_read, constant_at, read_as};
 
 use front_names_judge::{Item, constant_of, item_of, judge, width};
-use front_names_table::{Names, Sort, Tokens, number};
+use front_names_table::{Names, Sort, number};
 use front_read_expressions::{kind_at, put};
 use x_spelling::kind;
+use x_tokens::TokenArrays;
 use x_tokens::refusal::{Reason, Refusal};
 
 // How many rows and words are declared.
@@ -23,7 +24,7 @@ pub struct Declared {
 }
 
 // The constant at token j.
-fn constant_at(source: &[u8], tokens: Tokens, names: &Names, j: usize) -> Result<u32, Reason>
+fn constant_at(source: &[u8], tokens: TokenArrays, names: &Names, j: usize) -> Result<u32, Reason>
     ensures { (sizes : List ℕ) (made used : ℕ)
         → read_as result ≡ constant_read (text_at source.now tokens.entry.places.now tokens.entry.values.now)
         (scope_of source.now (held names.now sizes) names.now.count made used)
@@ -61,7 +62,7 @@ fn enter(
 // The specification at token i.
 fn declare(
     source: &[u8],
-    tokens: Tokens,
+    tokens: TokenArrays,
     names: &mut Names,
     table: &mut [u32; 4096],
     i: usize,
@@ -86,7 +87,7 @@ fn declare(
 // Open: both tables where a specification is refused; and everything where the tokens are no program, or `start` is not its process's first token.
 pub fn bind(
     source: &[u8],
-    tokens: Tokens,
+    tokens: TokenArrays,
     names: &mut Names,
     table: &mut [u32; 4096],
     start: usize,

@@ -13,9 +13,10 @@ ghost use Rattle.x_names.specs.Complaints;
 ghost use Rattle.front_names_resolve.specs.ResolvingWalk.{verdict, numbered, judged_by, walk, walked, scope_of};
 ghost use Rattle.front_names_resolve.specs.ResolvingWalk as spec;
 
-use front_names_table::{Meaning, Names, Sort, Tokens, number};
+use front_names_table::{Meaning, Names, Sort, number};
 use front_read_expressions::put;
 use x_program::row;
+use x_tokens::TokenArrays;
 use x_tokens::refusal::{Reason, Refusal};
 
 // The lesser of two: by place, then by number.
@@ -137,7 +138,7 @@ fn resolve_row(table: &mut [u32; 4096], r: usize, m: Meaning, k: u32, a: u32, b:
 // Rows `first` up to `end` of the table are resolved; the least complaint about their names.
 pub fn resolve(
     source: &[u8],
-    tokens: Tokens,
+    tokens: TokenArrays,
     names: &Names,
     table: &mut [u32; 4096],
     first: usize,

@@ -26,14 +26,6 @@ pub enum Sort {
     Val,
 }
 
-// The tokens of a source: their kinds, places and values.
-#[derive(Clone, Copy)]
-pub struct Tokens<'a> {
-    pub kinds: &'a [u8],
-    pub places: &'a [u32],
-    pub values: &'a [u32],
-}
-
 // The first `count` names, each with the place and length of its bytes in the source, its row, its sort and its word.
 #[derive(Drop)]
 pub struct Names {

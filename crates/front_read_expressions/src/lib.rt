@@ -12,6 +12,7 @@ ghost use Rattle.front_read_expressions.specs.Reads.{Reads, expression_form, ope
 
 use x_program::{operator, row};
 use x_spelling::kind;
+use x_tokens::TokenArrays;
 
 // How far a part goes: the next token to read, the number of rows, the process depth and the deepest expression.
 #[derive(Clone, Copy)]
@@ -20,13 +21,6 @@ pub struct Extent {
     pub rows: usize,
     pub depth: usize,
     pub deepest: usize,
-}
-
-// The tokens by their arrays: kinds, and values.
-#[derive(Clone, Copy)]
-pub struct Tokens<'a> {
-    pub kinds: &'a [u8],
-    pub values: &'a [u32],
 }
 
 // The token that no program continues with.
@@ -141,7 +135,7 @@ fn goes_on(o: u8, k: u8) -> bool
 // An expression at token i; its rows are from row n on.
 #[cycle(chain_expression_operand)]
 pub fn expression(
-    tokens: Tokens,
+    tokens: TokenArrays,
     table: &mut [u32; 4096],
     n: usize,
     i: usize,
@@ -174,7 +168,7 @@ pub fn expression(
 // The operands after an operator o, grouped to the right.
 #[cycle(chain_expression_operand)]
 fn chain(
-    tokens: Tokens,
+    tokens: TokenArrays,
     table: &mut [u32; 4096],
     o: u8,
     n: usize,
@@ -201,7 +195,7 @@ fn chain(
 // A number, a variable, an element, or an expression in brackets.
 #[cycle(chain_expression_operand)]
 fn operand(
-    tokens: Tokens,
+    tokens: TokenArrays,
     table: &mut [u32; 4096],
     n: usize,
     i: usize,

@@ -8,14 +8,15 @@ ghost use Rattle.front_read_processes.specs.Forms.{process_form, list_form, Comm
 ghost use Rattle.front_read_processes.specs.Lists.{Kept, joints};
 
 use front_read_expressions::{
-    Extent, Tokens, Ungrammatical, add_row, add_row_of_two, close, expression, kind_at, put,
+    Extent, Ungrammatical, add_row, add_row_of_two, close, expression, kind_at, put,
 };
 use x_program::row;
 use x_spelling::kind;
+use x_tokens::TokenArrays;
 
 // `n [ e ] := e` at token i.
 fn element_assignment(
-    tokens: Tokens,
+    tokens: TokenArrays,
     table: &mut [u32; 4096],
     n: usize,
     i: usize,
@@ -39,7 +40,7 @@ fn element_assignment(
 
 // An assignment to the name at token i.
 fn assignment(
-    tokens: Tokens,
+    tokens: TokenArrays,
     table: &mut [u32; 4096],
     n: usize,
     i: usize,
@@ -101,7 +102,7 @@ fn join(table: &mut [u32; 4096], pending: &[u16; 1024], top: usize, count: usize
 // A process at token i; its rows are from row n on. Lists around it use `pending` below `top`.
 #[cycle(braces_conditional_list_process_repetition)]
 pub fn process(
-    tokens: Tokens,
+    tokens: TokenArrays,
     table: &mut [u32; 4096],
     pending: &mut [u16; 1024],
     n: usize,
@@ -138,7 +139,7 @@ pub fn process(
 // Braces, which open at token i.
 #[cycle(braces_conditional_list_process_repetition)]
 fn braces(
-    tokens: Tokens,
+    tokens: TokenArrays,
     table: &mut [u32; 4096],
     pending: &mut [u16; 1024],
     n: usize,
@@ -164,7 +165,7 @@ fn braces(
 // The processes from token i on, up to the closing brace, grouped to the right: each one's last row waits in `pending` until its joint is written, after the list.
 #[cycle(braces_conditional_list_process_repetition)]
 fn list(
-    tokens: Tokens,
+    tokens: TokenArrays,
     table: &mut [u32; 4096],
     pending: &mut [u16; 1024],
     n: usize,
@@ -221,7 +222,7 @@ fn list(
 // `if e then p else p` at token i.
 #[cycle(braces_conditional_list_process_repetition)]
 fn conditional(
-    tokens: Tokens,
+    tokens: TokenArrays,
     table: &mut [u32; 4096],
     pending: &mut [u16; 1024],
     n: usize,
@@ -249,7 +250,7 @@ fn conditional(
 // `while e do p` at token i.
 #[cycle(braces_conditional_list_process_repetition)]
 fn repetition(
-    tokens: Tokens,
+    tokens: TokenArrays,
     table: &mut [u32; 4096],
     pending: &mut [u16; 1024],
     n: usize,

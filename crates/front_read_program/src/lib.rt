@@ -9,9 +9,10 @@ ghost use Rattle.x_grammar.specs.TokenArrays.{unread};
 ghost use Rattle.front_read_program.specs.Answer.{answer, Written};
 ghost use Rattle.front_read_program.specs.SpecificationReaders.{«ReadsSpecification», «ReadsFront», ended};
 
-use front_read_expressions::{Tokens, Ungrammatical, kind_at};
+use front_read_expressions::{Ungrammatical, kind_at};
 use front_read_processes::process;
 use x_spelling::kind;
+use x_tokens::TokenArrays;
 
 // A specification that was read: the token after its `;`, and the number of rows that it declares.
 #[derive(Clone, Copy)]
@@ -144,20 +145,15 @@ fn specifications(kinds: &[u8]) -> Result<Front, Ungrammatical>
 // The program that the tokens are: its raw rows go into the table, numbered from the first row that no specification declares.
 // `Bounded` is required for the stack alone: the readers' calls nest as the program does, so the tokens are to be recognized before they are read.
 // Open: the table where the tokens are no program.
-pub fn program(
-    kinds: &[u8],
-    values: &[u32],
-    table: &mut [u32; 4096],
-) -> Result<Parsed, Ungrammatical>
-    requires { (length kinds.now ≤ 1024) × (length kinds.now ≤ length values.now) × (Bounded (reads (unread kinds.now values.now 0))) }
-    ensures { (result ≡ answer (length kinds.now) (reads (unread kinds.now values.now 0)))
-        × Written (reads (unread kinds.now values.now 0)) table.old table.new }
+pub fn program(tokens: TokenArrays, table: &mut [u32; 4096]) -> Result<Parsed, Ungrammatical>
+    requires { (length tokens.kinds.now ≤ 1024) × (length tokens.kinds.now ≤ length tokens.values.now) × Bounded (reads (unread tokens.kinds.now tokens.values.now 0)) }
+    ensures { (result ≡ answer (length tokens.entry.kinds.now) (reads (unread tokens.entry.kinds.now tokens.entry.values.now 0)))
+        × Written (reads (unread tokens.entry.kinds.now tokens.entry.values.now 0)) table.old table.new }
 {
     let mut pending = [0u16; 1024];
-    let front = specifications(kinds)?;
-    let tokens = Tokens { kinds, values };
+    let front = specifications(tokens.kinds)?;
     let p = process(tokens, table, &mut pending, front.rows, front.process, 0)?;
-    if p.next < kinds.len() {
+    if p.next < tokens.kinds.len() {
         return Err(Ungrammatical { token: p.next });
     }
     Ok(Parsed {

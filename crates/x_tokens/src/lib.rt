@@ -13,6 +13,14 @@ use x_spelling::{
     Class, byte, digit_value, kind, letter, literal_character, numeral, one_of, span, word_of,
 };
 
+// The tokens of a source: their kinds, places and values.
+#[derive(Clone, Copy)]
+pub struct TokenArrays<'a> {
+    pub kinds: &'a [u8],
+    pub places: &'a [u32],
+    pub values: &'a [u32],
+}
+
 // What stands at the front: a separator, a token (kind, length, value), or why there is none.
 #[derive(Clone, Copy)]
 pub enum Lexeme {

@@ -6,20 +6,20 @@ use Rattle.front_read_program.proofs.program.Goals as goal
 
 pub returns-in_err-front : goal.returns-in_err-front
 returns-in_err-front c =
-    rw (passed _ _ c.from_residual.ensures.1) (program_front c.args.kinds.now c.args.values.now _ c.args.table.now c.args.table.now (c.in_err-front.ensures c.args.values.now))
+    rw (passed _ _ c.from_residual.ensures.1) (program_front c.args.tokens.kinds.now c.args.tokens.values.now _ c.args.table.now c.args.table.now (c.in_err-front.ensures c.args.tokens.values.now))
 
 pub process-requires : goal.process-requires
-process-requires c = let f = c.in_ok-front.ensures c.args.values.now in omega arith
+process-requires c = let f = c.in_ok-front.ensures c.args.tokens.values.now in omega arith
 
 pub returns-in_err-p : goal.returns-in_err-p
 returns-in_err-p c =
     rw (passed _ _ c.from_residual-in_err-p.ensures.1)
-    (program_bad c.args.kinds.now c.args.values.now _ _ _ (c.in_ok-front.ensures c.args.values.now) c.args.table.now _ c.process.new.table c.in_err-p.ensures.0)
+    (program_bad c.args.tokens.kinds.now c.args.tokens.values.now _ _ _ (c.in_ok-front.ensures c.args.tokens.values.now) c.args.table.now _ c.process.new.table c.in_err-p.ensures.0)
 
-pub returns-then-p-kinds : goal.returns-then-p-kinds
-returns-then-p-kinds c =
-    program_left c.args.kinds.now c.args.values.now _ _ _ (c.in_ok-front.ensures c.args.values.now) c.args.table.now _ c.process.new.table c.in_ok-p.ensures.0 c.if-p-kinds.true
+pub returns-then-p-tokens : goal.returns-then-p-tokens
+returns-then-p-tokens c =
+    program_left c.args.tokens.kinds.now c.args.tokens.values.now _ _ _ (c.in_ok-front.ensures c.args.tokens.values.now) c.args.table.now _ c.process.new.table c.in_ok-p.ensures.0 c.if-p-tokens.true
 
 pub returns : goal.returns
 returns c =
-    program_done c.args.kinds.now c.args.values.now _ _ _ (c.in_ok-front.ensures c.args.values.now) c.args.table.now _ c.process.new.table c.in_ok-p.ensures.0 c.if-p-kinds.false
+    program_done c.args.tokens.kinds.now c.args.tokens.values.now _ _ _ (c.in_ok-front.ensures c.args.tokens.values.now) c.args.table.now _ c.process.new.table c.in_ok-p.ensures.0 c.if-p-tokens.false
