@@ -24,7 +24,7 @@ pub enum Refusal {
 }
 
 // What a run did (as a step's status and number; 0 where the limit was reached), and how many instructions it completed.
-// Numbers, and no enum, as in `Started` and in `Stepped`: it is what C gets, and what demand_1 to demand_4 of theorem_demands compare.
+// Numbers, and no enum, as in `Started` and in `Stepped`: it is what C gets, and what `Demand1` and `Demand3` of theorem_demands speak of.
 #[derive(Clone, Copy)]
 pub struct Ran {
     pub machine: Machine,

@@ -34,7 +34,7 @@ pub struct Machine {
 }
 
 // What a step did: status 0 one instruction, 1 an SVC, whose number is `number`, 21 to 24 a fault, 26 one whose class is
-// `number`, 31 and 32 a refusal. Numbers, and no enum: it is what C gets, and what demand_1 to demand_4 of theorem_demands compare.
+// `number`, 31 and 32 a refusal. Numbers, and no enum: it is what C gets, and what `Demand1` and `Demand3` of theorem_demands speak of.
 #[derive(Clone, Copy)]
 pub struct Stepped {
     pub machine: Machine,
