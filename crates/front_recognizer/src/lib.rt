@@ -352,7 +352,7 @@ fn decide(mode: Mode, o: u32, level: u32, f: Frame, k: u8) -> Action
     }
 }
 
-// The frame where nothing is open.
+// The frame where nothing is open: a mark of its own and no Option, so that what follows a part is one match over the mark.
 fn no_frame() -> Frame
     ensures { result ≡ rules.no_frame }
 {
