@@ -10,7 +10,7 @@ ghost use Rattle.text_names.specs.Names as spec;
 ghost use Rattle.text_names.specs.NamesSoFar.{tokens_of, words_of};
 ghost use Rattle.text_names.specs.Walk as walk;
 ghost use Rattle.text_names.specs.Walk.{val_found, constant_found, Reads};
-ghost use Rattle.text_names.specs.Tokens.{IsAccepted, TokensOf, First};
+ghost use Rattle.text_names.specs.Tokens.{IsAccepted};
 ghost use Rattle.text_names.specs.Names.{right, data_head, val_tail, names_of};
 
 use front_names_table::{number, text};
@@ -19,6 +19,7 @@ use text_buffer::{append, append_line};
 use text_lines::Line;
 use text_position::put_spaces;
 use x_spelling::kind;
+use x_tokens::TokenArrays;
 
 const COLUMNS: usize = 7;
 
@@ -110,13 +111,13 @@ fn item_value(k: u8, w: u32) -> u32
 }
 
 // The bytes of token t.
-fn token_text<'a>(source: &'a [u8], places: &[u32], values: &[u32], t: usize) -> &'a [u8]
-    ensures { result.now ≡ text_at source.now places.now values.now t }
+fn token_text<'a>(source: &'a [u8], tokens: TokenArrays, t: usize) -> &'a [u8]
+    ensures { result.now ≡ text_at source.now tokens.entry.places.now tokens.entry.values.now t }
 {
     text(
         source,
-        number(places, t) as usize,
-        number(values, t) as usize,
+        number(tokens.places, t) as usize,
+        number(tokens.values, t) as usize,
     )
 }
 
@@ -128,19 +129,19 @@ struct Declared {
 }
 
 // Whether a name is spelt as this text.
-fn is_spelt(source: &[u8], places: &[u32], values: &[u32], d: Declared, text: &[u8]) -> bool
-    ensures { result ≡ same (text_at source.now places.now values.now d.token) text.now }
+fn is_spelt(source: &[u8], tokens: TokenArrays, d: Declared, text: &[u8]) -> bool
+    ensures { result ≡ same (text_at source.now tokens.entry.places.now tokens.entry.values.now d.token) text.now }
 {
-    x_spelling::equal(token_text(source, places, values, d.token as usize), text)
+    x_spelling::equal(token_text(source, tokens, d.token as usize), text)
 }
 
 // The word of the val that token t names: the latest of the names that is spelt so.
-fn val_word(source: &[u8], places: &[u32], values: &[u32], names: &[Declared], t: usize) -> u32
-    ensures { result ≡ val_found source.now places.now values.now (tokens_of names.now) (words_of names.now) (length names.now) t }
+fn val_word(source: &[u8], tokens: TokenArrays, names: &[Declared], t: usize) -> u32
+    ensures { result ≡ val_found source.now tokens.entry.places.now tokens.entry.values.now (tokens_of names.now) (words_of names.now) (length names.now) t }
 {
-    let text = token_text(source, places, values, t);
+    let text = token_text(source, tokens, t);
     for k in (0..names.len()).rev() {
-        if is_spelt(source, places, values, names[k], text) {
+        if is_spelt(source, tokens, names[k], text) {
             return names[k].word;
         }
     }
@@ -148,33 +149,19 @@ fn val_word(source: &[u8], places: &[u32], values: &[u32], names: &[Declared], t
 }
 
 // The word of the constant at token j.
-fn constant_word(
-    source: &[u8],
-    kinds: &[u8],
-    places: &[u32],
-    values: &[u32],
-    names: &[Declared],
-    j: usize,
-) -> u32
-    ensures { result ≡ constant_found source.now kinds.now places.now values.now (tokens_of names.now) (words_of names.now) (length names.now) j }
+fn constant_word(source: &[u8], tokens: TokenArrays, names: &[Declared], j: usize) -> u32
+    ensures { result ≡ constant_found source.now tokens.entry.kinds.now tokens.entry.places.now tokens.entry.values.now (tokens_of names.now) (words_of names.now) (length names.now) j }
 {
-    if kind_at(kinds, j) == kind::NUMBER {
-        return number(values, j);
+    if kind_at(tokens.kinds, j) == kind::NUMBER {
+        return number(tokens.values, j);
     }
-    val_word(source, places, values, names, j)
+    val_word(source, tokens, names, j)
 }
 
 // The lines of the names that the tokens declare, from the first specification to the last.
-fn put_names(
-    source: &[u8],
-    kinds: &[u8],
-    places: &[u32],
-    values: &[u32],
-    out: &mut [u8],
-    at: usize,
-) -> usize
-    requires { Reads source.now kinds.now places.now values.now }
-    ensures { left out.new result ≡ placed out.old at (walk.lines source.now kinds.now places.now values.now) }
+fn put_names(source: &[u8], tokens: TokenArrays, out: &mut [u8], at: usize) -> usize
+    requires { Reads source.now tokens.kinds.now tokens.places.now tokens.values.now }
+    ensures { left out.new result ≡ placed out.old at (walk.lines source.now tokens.entry.kinds.now tokens.entry.places.now tokens.entry.values.now) }
 {
     let mut names = [Declared { token: 0, word: 0 }; 1024];
     let mut count: usize = 0;
@@ -182,12 +169,12 @@ fn put_names(
     let mut end = at;
     let mut i: usize = 0;
     // A `while`, since a specification's kind says how many tokens it has.
-    while i < kinds.len() {
-        match kind_at(kinds, i) {
+    while i < tokens.kinds.len() {
+        match kind_at(tokens.kinds, i) {
             kind::COMMENT => i += 1,
             k @ kind::VAR..=kind::VAL => {
-                let w = constant_word(source, kinds, places, values, &names[..count], i + 3);
-                let text = token_text(source, places, values, i + 1);
+                let w = constant_word(source, tokens, &names[..count], i + 3);
+                let text = token_text(source, tokens, i + 1);
                 end = put_item(out, end, k, used, w, text);
                 names[count] = Declared {
                     token: (i + 1) as u32,
@@ -203,22 +190,6 @@ fn put_names(
     end
 }
 
-// The same for the first n tokens of the arrays.
-fn put_first(
-    source: &[u8],
-    kinds: &[u8],
-    places: &[u32],
-    values: &[u32],
-    n: usize,
-    out: &mut [u8],
-    at: usize,
-) -> usize
-    requires { First source.now kinds.now places.now values.now n }
-    ensures { left out.new result ≡ placed out.old at (names_of source.now) }
-{
-    put_names(source, &kinds[..n], &places[..n], &values[..n], out, at)
-}
-
 // The lines of the names that an accepted source declares, from a place of the buffer on, and the place after them.
 pub fn lines(source: &[u8], out: &mut [u8], at: usize) -> usize
     requires { IsAccepted source.now }
@@ -227,9 +198,15 @@ pub fn lines(source: &[u8], out: &mut [u8], at: usize) -> usize
     let mut kinds = [0u8; 1024];
     let mut places = [0u32; 1024];
     let mut values = [0u32; 1024];
-    let s = x_tokens::tokens(source, &mut kinds, &mut places, &mut values);
-    match s {
+    match x_tokens::tokens(source, &mut kinds, &mut places, &mut values) {
         Err(_) => at,
-        Ok(n) => put_first(source, &kinds, &places, &values, n, out, at),
+        Ok(n) => {
+            let tokens = TokenArrays {
+                kinds: &kinds[..n],
+                places: &places[..n],
+                values: &values[..n],
+            };
+            put_names(source, tokens, out, at)
+        }
     }
 }

@@ -10,8 +10,8 @@ abbrev pub invariant-loop-i : goal.invariant-loop-i
 invariant-loop-i l = record {
   room : length l.names ≡ 1024;
   few : l.count ≤ l.i;
-  walking : Walking l.source l.kinds l.places l.values l.initial.out l.at (tokens_of l.names) (words_of l.names) l.out l.end l.i l.count l.used;
+  walking : Walking l.source l.tokens.kinds.now l.tokens.places.now l.tokens.values.now l.initial.out l.at (tokens_of l.names) (words_of l.names) l.out l.end l.i l.count l.used;
 }
 
 abbrev pub decreases-loop-i : goal.decreases-loop-i
-decreases-loop-i l = length l.kinds - l.i
+decreases-loop-i l = length l.tokens.kinds.now - l.i

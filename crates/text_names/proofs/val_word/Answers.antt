@@ -18,7 +18,7 @@ returns-then-is_spelt c =
     let x = c.args in
     let k = c.loop-k.k in
     let names = x.names.now in
-    let text = text_at x.source.now x.places.now x.values.now in
+    let text = text_at x.source.now x.tokens.places.now x.tokens.values.now in
     let is : same (text (get_or (tokens_of names) (k - 1) 0)) (text x.t) ≡ true =
     (λ j. same (text (get_or-map (λ (d : Declared). d.token) names (k - 1) none j)) (sym c.token_text-text.ensures j)) ∙ sym c.is_spelt.ensures ∙ c.if-is_spelt.true in
     sym (c.loop-k.invariant ∙ found_here _ _ _ (tokens_of names) (words_of names) (text x.t) k c.loop-k-test.true is ∙ get_or-map (λ (d : Declared). d.word) names (k - 1) none)
@@ -28,7 +28,7 @@ loop-k-preserved c =
     let x = c.args in
     let k = c.loop-k.k in
     let names = x.names.now in
-    let text = text_at x.source.now x.places.now x.values.now in
+    let text = text_at x.source.now x.tokens.places.now x.tokens.values.now in
     let is : same (text (get_or (tokens_of names) (k - 1) 0)) (text x.t) ≡ false =
     (λ j. same (text (get_or-map (λ (d : Declared). d.token) names (k - 1) none j)) (sym c.token_text-text.ensures j)) ∙ sym c.is_spelt.ensures ∙ c.if-is_spelt.false in
     c.loop-k.invariant ∙ found_next _ _ _ (tokens_of names) (words_of names) (text x.t) k c.loop-k-test.true is
@@ -37,4 +37,4 @@ pub returns : goal.returns
 returns c =
     let x = c.args in
     let names = x.names.now in
-    sym (c.loop-k.invariant ∙ found_none _ _ _ (tokens_of names) (words_of names) (text_at x.source.now x.places.now x.values.now x.t) c.loop-k.k c.loop-k-test.false)
+    sym (c.loop-k.invariant ∙ found_none _ _ _ (tokens_of names) (words_of names) (text_at x.source.now x.tokens.places.now x.tokens.values.now x.t) c.loop-k.k c.loop-k-test.false)

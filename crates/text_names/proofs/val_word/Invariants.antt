@@ -7,5 +7,5 @@ use Rattle.text_names.specs.Walk.{found}
 use Rattle.text_names.proofs.val_word.Given as goal
 
 abbrev pub invariant-loop-k : goal.invariant-loop-k
-invariant-loop-k l = found l.source l.places l.values (tokens_of l.names) (words_of l.names) (length l.names) (text_at l.source l.places l.values l.t)
-    ≡ found l.source l.places l.values (tokens_of l.names) (words_of l.names) l.k (text_at l.source l.places l.values l.t)
+invariant-loop-k l = found l.source l.tokens.places.now l.tokens.values.now (tokens_of l.names) (words_of l.names) (length l.names) (text_at l.source l.tokens.places.now l.tokens.values.now l.t)
+    ≡ found l.source l.tokens.places.now l.tokens.values.now (tokens_of l.names) (words_of l.names) l.k (text_at l.source l.tokens.places.now l.tokens.values.now l.t)
