@@ -9,7 +9,9 @@ use Rattle.arm_machine.proofs.check_start.Goals as goal
 
 pub returns-in_err-check_lengths : goal.returns-in_err-check_lengths
 unfolding start_refusal
-returns-in_err-check_lengths c = passed_on c.from_residual.result c.in_err-check_lengths.field-0.0 c.from_residual.ensures.1 ∙ rw (sym c.check_lengths.ensures ∙ ap answered c.in_err-check_lengths.was, refusal_not_0 _)
+returns-in_err-check_lengths c =
+    passed_on c.from_residual.result c.in_err-check_lengths.field-0.0 c.from_residual.ensures.1
+    ∙ rw (sym c.check_lengths.ensures ∙ ap answered c.in_err-check_lengths.was, refusal_not_0 _)
 
 pub returns-then-declared-gt8192 : goal.returns-then-declared-gt8192
 unfolding start_refusal
