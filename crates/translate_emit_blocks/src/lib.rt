@@ -11,7 +11,9 @@ ghost use Rattle.translate_emit_blocks.specs.Jumps.{Ahead};
 use arm_encoding::Instr;
 use translate_emit_instructions::{Writer, put};
 
-// Instructions about the load of a constant, by its register and word.
+// Instructions about the load of a constant, by its register and word. Inlined, since the instructions are then known where they are encoded: without it a
+// translation of many assignments takes 5 % longer.
+#[inline(always)]
 fn put_about(out: &mut Writer<'_>, before: &[Instr], load: (u8, u32), after: &[Instr])
     requires { Fits out.old (before.now ++ (load_constant load.0 load.1 ++ after.now)) }
     ensures { Writes out.old (before.now ++ (load_constant load.0 load.1 ++ after.now)) out.new }
