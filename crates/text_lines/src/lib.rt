@@ -5,8 +5,8 @@ ghost use Rattle.std.specs.Prelude.{◌≡◌, [], ◌∷◌, ◌++◌, ◌<◌,
 ghost use Rattle.text_lines.specs.Text as spec;
 ghost use Rattle.text_lines.specs.Text.{written, fitted};
 
-// The first `length` of the bytes; what does not fit is left out. No `ArrayVec`: it doesn't tell its callers that it has at most
-// 128 bytes, which `fitted` needs, so that `Line` would need a ghost field beside it.
+// The first `length` of the bytes; what does not fit is left out. An `ArrayVec` is no plainer: only its `as_slice` says that it has
+// at most 128 bytes, which `fitted` needs, so that `Line` would need a ghost field beside it.
 #[derive(Drop)]
 pub struct Line {
     pub bytes: [u8; 128],

@@ -48,8 +48,9 @@ until_more s i h e = rw (drop-cons s i 0 h, ne_eqb (get_or s i 0) line_feed e, a
 
 -- ── what the code counts ──
 
-abbrev Other : ℕ → Bool
-Other b = not (b == line_feed)
+-- no line feed
+abbrev other : ℕ → Bool
+other b = not (b == line_feed)
 
 feeds_filtered : (s : List ℕ) → length (filter (λ b. b == line_feed) s) ≡ feeds s
 unfolding feeds feed
@@ -61,24 +62,24 @@ feeds_filtered (b ∷ s) =
 pub feeds_counted : (s : List ℕ) → count_by (λ b. b == line_feed) s ≡ feeds s
 feeds_counted s = sym (length-filter (λ b. b == line_feed) s) ∙ feeds_filtered s
 
-pub until_counted : (s : List ℕ) → prefix_len Other s ≡ until s
+pub until_counted : (s : List ℕ) → prefix_len other s ≡ until s
 unfolding until
 until_counted [] = refl
 until_counted (b ∷ s) =
-    by_test (λ (t : Bool). cond (not t) (1 + prefix_len Other s) 0 ≡ pick t 0 (suc (until s))) (b == line_feed)
+    by_test (λ (t : Bool). cond (not t) (1 + prefix_len other s) 0 ≡ pick t 0 (suc (until s))) (b == line_feed)
     (λ _. refl) (λ _. omega (arith, until_counted s))
 
 -- by the bytes from the last to the first
-since_reversed : (s : List ℕ) → prefix_len Other s ≡ since (reverse s) 0
+since_reversed : (s : List ℕ) → prefix_len other s ≡ since (reverse s) 0
 unfolding since onward
 since_reversed [] = refl
 since_reversed (b ∷ s) =
-    by_test (λ (t : Bool). cond (not t) (1 + prefix_len Other s) 0 ≡ pick t 0 (since (reverse s) 0 + 1)) (b == line_feed)
+    by_test (λ (t : Bool). cond (not t) (1 + prefix_len other s) 0 ≡ pick t 0 (since (reverse s) 0 + 1)) (b == line_feed)
     (λ _. refl) (λ _. omega (arith, since_reversed s))
     ∙ sym (since_behind (reverse s) 0 b)
     ∙ ap (λ (l : List ℕ). since l 0) (sym (reverse-append (b ∷ []) s))
 
-pub since_counted : (s : List ℕ) → suffix_len Other s ≡ since s 0
+pub since_counted : (s : List ℕ) → suffix_len other s ≡ since s 0
 since_counted s = since_reversed (reverse s) ∙ ap (λ (l : List ℕ). since l 0) (reverse-reverse s)
 
 -- ── lists that grow at their end ──
