@@ -86,7 +86,8 @@ module _ (source ks ps vs : List ℕ) (lp : length ps ≡ length ks) (lv : lengt
     pub deepest_is : deepest ≡ grammar_depth.deepest tree
     pub table : t' ≡ sets t (row_words * raw.first_row tree) (raw.rows tree)
 
-  pub came : (start rows depth deepest : ℕ) (t t' : List ℕ) → answer (length ks) R ≡ Ok (record { start = start; rows = rows; depth = depth; deepest = deepest }) → Written R t t' → Came start rows depth deepest t t'
+  pub came : (start rows depth deepest : ℕ) (t t' : List ℕ) → answer (length ks) R ≡ Ok (record { start = start; rows = rows; depth = depth; deepest = deepest })
+      → Written R t t' → Came start rows depth deepest t t'
   came start rows depth deepest t t' e h = by R refl e h
     where
       by : (r : Reading) → R ≡ r → answer (length ks) r ≡ Ok (record { start = start; rows = rows; depth = depth; deepest = deepest }) → Written r t t' → Came start rows depth deepest t t'

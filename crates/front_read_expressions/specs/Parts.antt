@@ -214,7 +214,8 @@ module _ (kinds values : List ℕ) (i n : ℕ) (t : List ℕ) where
       )
   expression_monadic o (Err x) t' e big z h = (h.0, λ k. into_monadic o e big z k ∙ h.1 (under o k))
 
-  pub expression_bad : (x : Ungrammatical) (t' : List ℕ) → is_monadic (get_or kinds i 0) ≡ false → Reads operand_form kinds values i n t (Err x) t' → Reads expression_form kinds values i n t (Err x) t'
+  pub expression_bad : (x : Ungrammatical) (t' : List ℕ) → is_monadic (get_or kinds i 0) ≡ false → Reads operand_form kinds values i n t (Err x) t'
+      → Reads expression_form kinds values i n t (Err x) t'
   expression_bad x t' z h = (h.0, λ k. to_operand z k ∙ h.1 (first k))
 
   pub chain_bad : (o : ℕ) (x : Ungrammatical) (t' : List ℕ) → Reads operand_form kinds values i n t (Err x) t' → Reads (chain_form o) kinds values i n t (Err x) t'

@@ -273,7 +273,8 @@ module _ (kinds values : List ℕ) (i n : ℕ) (t : List ℕ) where
     while_bad x t' h = (h.0, λ k. into_while k ∙ h.1 k)
 
     pub process_while : (p : Extent) (t' : List ℕ) → Reads while_form kinds values (i + 1) n t (Ok p) t' → (r : Read) (t'' : List ℕ)
-        → Reads process_form kinds values p.next p.rows t' r t'' → Reads process_form kinds values i n t (deepened (counted_row r) 0 p.deepest 1 0) (tabled t'' r (row_of_last layout.while (p.rows - 1)))
+        → Reads process_form kinds values p.next p.rows t' r t''
+        → Reads process_form kinds values i n t (deepened (counted_row r) 0 p.deepest 1 0) (tabled t'' r (row_of_last layout.while (p.rows - 1)))
     unfolding count_process rows_process
     process_while p t' h (Ok q) t'' g =
         let w = h.0 in

@@ -107,7 +107,9 @@ module _ (kinds values : List ℕ) where
       pub program_left : p.next < length kinds → (refused_at p.next ≡ answer (length kinds) (reads (unread kinds values 0))) × Written (reads (unread kinds values 0)) t t'
       program_left l = let a = f.arrives [] 0 refl in program_refused p.next t t' h.0.short (comes_to a ∙ rw (unread_cons kinds values p.next l) (run_left _ _ a.specifications _))
 
-      pub program_done : length kinds ≤ p.next → (Ok (record { start = s; rows = p.rows; depth = p.depth; deepest = p.deepest }) ≡ answer (length kinds) (reads (unread kinds values 0))) × Written (reads (unread kinds values 0)) t t'
+      pub program_done : length kinds ≤ p.next
+          → (Ok (record { start = s; rows = p.rows; depth = p.depth; deepest = p.deepest }) ≡ answer (length kinds) (reads (unread kinds values 0)))
+          × Written (reads (unread kinds values 0)) t t'
       program_done l =
           let a = f.arrives [] 0 refl in
           let b = a.specifications in
