@@ -282,7 +282,7 @@ fn logical(h: u16) -> Option<Instr>
     }
 }
 
-// STR.
+// STR. Apart from LDR, since each requires its own first digits, by which its rows are found in the table.
 fn stored(h: u16) -> Option<Instr>
     requires { h / 2048 ≡ 10 }
     ensures { result ≡ find table h }

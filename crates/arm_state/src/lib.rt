@@ -337,6 +337,7 @@ impl Core {
         self.result(d, r, flags_of(r, carry_of(n, f.c, last), f.v))
     }
 
+    // Three shifts and no generic one: each differs in two functions, which a caller would have to hand in as closures.
     pub fn shifts_left(self, d: u8, x: u32, n: u32) -> Core
         ensures { core.whole result ≡ state.shifts_left (core.whole self) d x n }
     {

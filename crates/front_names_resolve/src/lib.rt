@@ -19,7 +19,7 @@ use x_program::row;
 use x_tokens::TokenArrays;
 use x_tokens::refusal::{Reason, Refusal};
 
-// The lesser of two: by place, then by number.
+// The lesser of two: by place, then by number. No derived order: it would go by the reason first, and put none before any.
 fn lesser(a: Option<Refusal>, b: Option<Refusal>) -> Option<Refusal>
     ensures { verdict result ≡ lesser_of (verdict a) (verdict b) }
 {

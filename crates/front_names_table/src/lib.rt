@@ -27,6 +27,7 @@ pub enum Sort {
 }
 
 // The first `count` names, each with the place and length of its bytes in the source, its row, its sort and its word.
+// Moved, not copied: it has five KB.
 #[derive(Drop)]
 pub struct Names {
     pub places: [u32; 256],

@@ -85,6 +85,7 @@ fn join(table: &mut [u32; 4096], pending: &[u16; 1024], top: usize, count: usize
     requires { (0 < m) × (m + count ≤ 1024) × (top + count ≤ 1024) }
     ensures { table.new ≡ joints table.old m pending.now top count }
 {
+    // `next` is counted beside the loop: a zip with the rows' numbers would walk two ranges in step, and say no more.
     let mut next = m;
     for c in (0..count).rev() {
         put(
@@ -183,6 +184,7 @@ fn list(
         deepest: 0,
     };
     let mut count: usize = 0;
+    // A `loop`, since a process takes as many tokens as it reads.
     loop {
         let part = process(
             tokens,

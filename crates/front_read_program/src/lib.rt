@@ -126,6 +126,7 @@ fn specifications(kinds: &[u8]) -> Result<Front, Ungrammatical>
         process: 0,
         rows: 0,
     };
+    // A `loop`, since a specification takes several tokens.
     loop {
         match kind_at(kinds, front.process) {
             kind::COMMENT => front.process += 1,

@@ -24,6 +24,6 @@ pub enum Mode {
     NeedOperand,
     NameRead,
     HaveOperand,
-    // no program continues with the token
+    // No program continues with the token. A mode, and no Option about an action: `decide` is one table over modes, this one's line too.
     Refused,
 }

@@ -57,7 +57,7 @@ pub extern "C" fn gutilamboy_step(
     *state = state_words(stepped.machine);
 }
 
-// 1 for a run that an SVC ended: it counts, and completes nothing.
+// 1 for a run that an SVC ended: it counts, and completes nothing. By the status's number, which C gets.
 fn svc_count(status: u32) -> u64
     ensures { result ≡ runs.svc_count status }
 {

@@ -9,6 +9,8 @@ ghost use Rattle.gutilamboy_numbers.specs.Numbers as numbers;
 use arm_encoding::{Halfwords, Instr};
 use arm_state::{Flags, Machine};
 
+// Instructions by number, and no `From`: these are C's numbers, and neither type is this crate's.
+
 // The instruction of a number, of up to three fields and of a distance; a number from 34 on has none.
 pub fn instruction(op: u8, a: u8, b: u8, c: u8, k: u32) -> Option<Instr>
     ensures { result ≡ numbers.instruction_of op a b c k }

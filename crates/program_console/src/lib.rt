@@ -18,6 +18,7 @@ pub fn read(rt: &impl io::Input, buffer: &mut [u8]) -> io::Result<usize>
 {
     let mut reader = rt.reader();
     let mut done = 0;
+    // A `while`, since a read takes as many bytes as the system has.
     while done < buffer.len() {
         let n = reader.read(&mut buffer[done..])?;
         if n == 0 {

@@ -5,7 +5,7 @@ use std::fmt;
 use translate_source::Translation;
 
 // Status, place, tokens, rows, data words, N and image bytes.
-#[derive(Drop)]
+#[derive(Clone, Copy)]
 struct Answer(Translation);
 
 impl fmt::Display for Answer {

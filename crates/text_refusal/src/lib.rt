@@ -20,7 +20,7 @@ const NO_TOKEN: u8 = 0;
 const GRAMMAR: u32 = 6;
 
 // The kinds of the token at a place and of the two before it; 0 where there is none.
-#[derive(Drop)]
+#[derive(Clone, Copy)]
 pub struct Near {
     pub before: u8,
     pub previous: u8,
@@ -34,7 +34,7 @@ fn line(text: &[u8]) -> Line
     Line::empty().put_all(text)
 }
 
-// The sentences of 1 to 5 and 7.
+// The sentences of 1 to 5 and 7. By number, as `Translation` and the definitions of these texts have it.
 #[tactic(auto, unfolding(crate::specs::Refusal::early_sentence))]
 fn early_sentence(n: u32) -> Line
     ensures { written result ≡ fitted (spec.early_sentence n) }

@@ -24,6 +24,7 @@ fn process(table: &[u32], out: &mut Writer<'_>, r: usize)
     requires { WellProcess table.now r × Fits out.old (process_in table.now r) }
     ensures { Writes out.old (process_in table.now r) out.new }
 {
+    // The `while` goes from row to row down the list; it counts nothing.
     let mut last = r;
     let mut w = row_at(table, r);
     while w.kind == row::SEQUENCE {

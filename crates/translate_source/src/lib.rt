@@ -22,9 +22,9 @@ use translate_image::image;
 use x_program::row;
 use x_tokens::refusal::Refusal;
 
-// A record with a number, as C's out words and the theorems have it (`gutilamboy::translate`, `Translates` of theorem_demands): no Result.
 // The answer: document 01's number and place, 0 and 0 where the source is accepted, and the counts, all 0 where it is refused.
-#[derive(Drop)]
+// A record with a number and no Result, as C's out words (`gutilamboy_translate`) and the theorems (`Translates` of theorem_demands) have it.
+#[derive(Clone, Copy)]
 pub struct Translation {
     pub status: u32,
     pub place: u32,

@@ -33,7 +33,7 @@ enum Refusal {
 
 // As of the machine's run: 0 where the limit was reached, 1 and the number of the end, or a refusal; then the rows that were begun and the accesses that were made.
 // Numbers, since C gets them: `walk_call` (gutilamboy_walker/specs/WalkCall) and `Demand5` speak of them.
-#[derive(Drop)]
+#[derive(Clone, Copy)]
 pub struct Walked {
     pub status: u32,
     pub number: u32,
@@ -54,6 +54,7 @@ fn settle(
     ensures settled { result ≡ Settling → ⊥ }
 {
     let mut mode = opened;
+    // As often as a row asks for: nothing is counted.
     while let Mode::Settling = mode {
         mode = act(table, words, accesses, work);
     }
