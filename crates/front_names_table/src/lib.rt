@@ -8,6 +8,8 @@ ghost use Rattle.front_names_table.specs.View as views;
 ghost use Rattle.front_names_table.specs.Held.{held};
 ghost use Rattle.front_names_table.specs.Sorts.{number};
 
+use arm_word::entry_or;
+
 // What a name stands for: a variable or an array by its row, a val by its word, or nothing that is declared.
 #[derive(Clone, Copy)]
 pub enum Meaning {
@@ -47,10 +49,11 @@ pub fn text(source: &[u8], p: usize, n: usize) -> &[u8]
     &source[start..end]
 }
 
+// Entry i of a token array, 0 past the last.
 pub fn number(s: &[u32], i: usize) -> u32
     ensures { result ≡ get_or s.now i 0 }
 {
-    s.get(i).copied().unwrap_or(0)
+    entry_or(s, i, 0)
 }
 
 impl Names {

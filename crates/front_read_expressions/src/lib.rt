@@ -10,6 +10,7 @@ ghost use Rattle.x_grammar.specs.Grammar.{is_monadic, is_diadic, is_associative}
 ghost use Rattle.x_grammar.specs.RawRows.{row, monadic_number};
 ghost use Rattle.front_read_expressions.specs.Reads.{Reads, expression_form, operand_form, chain_form, Fit, Within, Ready, Shallow, closed, deepened_extent, one_row_more, row_of_last, row_of_two};
 
+use arm_word::entry_or;
 use x_program::{operator, row};
 use x_spelling::kind;
 use x_tokens::TokenArrays;
@@ -47,7 +48,7 @@ impl Extent {
 pub fn kind_at(kinds: &[u8], i: usize) -> u8
     ensures { result ≡ get_or kinds.now i 0 }
 {
-    kinds.get(i).copied().unwrap_or(0)
+    entry_or(kinds, i, 0)
 }
 
 // Row n of the table.
