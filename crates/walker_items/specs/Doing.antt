@@ -1,7 +1,7 @@
 -- What the walker does with each thing to do is what the table's run does with it. Laws; rests on WorkingArrays.
 use Rattle.std.specs.Prelude.{◌≡◌, Bool, ℕ, suc, ◌+◌, ◌≤◌, ◌<◌, length, set, eqb, ltb, Option, Some, None}
 use Rattle.std.proofs.Math.Path.{refl, ap, ap₂}
-use Rattle.std.proofs.Common.{sym, ◌∙◌, arith, eq-eqb, ne_eqb}
+use Rattle.std.proofs.Common.{sym, ◌∙◌, arith, eq-eqb, le-ltb, ne_eqb}
 use mathlib.Core.List.{List, [], ◌∷◌, ◌++◌}
 use Rattle.std.proofs.Math.ListN.{get_or}
 use Rattle.std.proofs.Math.Bool.{true, false}
@@ -50,6 +50,10 @@ module _ {t : List ℕ} {first : ℕ} {old : List ℕ} {w : Work} {words buffer 
       by true = refl
       by false = refl
 
+  -- one that is not below the length
+  pub fails : {r : ℕ} → Faces t first old (run.check r) w words buffer x → length_of t r ≤ top w.pile → Shows t first old BadSubscript w words buffer x
+  fails {r} f h = checks f (rw (le-ltb (top w.pile) (length_of t r) h) refl)
+
   pub loads : {r k v : ℕ} {pile buffer' : List ℕ} {g : Listing} → Faces t first old (run.load r) w words buffer x
       → k ≡ offset_of t r + top w.pile → v ≡ get_or words k 0 → g.first ≡ w.listing.first
       → ((l : List Access) → (Small l → Listed w.listing.first old buffer w.listing.total l) → Small (l ++ loaded k v ∷ []) → Listed w.listing.first old buffer' g.total (l ++ loaded k v ∷ []))
@@ -97,6 +101,15 @@ module _ {t : List ℕ} {first : ℕ} {old : List ℕ} {w : Work} {words buffer 
   unfolding settle
   chooses f e p = goes_on f ((λ i. comes_to t (e i) w.items (p i) words f.trace) ∙ f.point)
 
+  -- and its two outcomes
+  pub chooses_else : {r n : ℕ} {pile : List ℕ} → Faces t first old (run.choose r) w words buffer x → n ≡ word t r 3 → pile ≡ rest w.pile → top w.pile ≡ 0
+      → Shows t first old (AtRow n) (worked w.items pile w.listing) words buffer x
+  chooses_else f e p z = chooses f (rw (eq-eqb (top w.pile) 0 z) (ap AtRow e)) p
+
+  pub chooses_then : {r n : ℕ} {pile : List ℕ} → Faces t first old (run.choose r) w words buffer x → n ≡ word t r 2 → pile ≡ rest w.pile → ¬ (top w.pile ≡ 0)
+      → Shows t first old (AtRow n) (worked w.items pile w.listing) words buffer x
+  chooses_then f e p z = chooses f (rw (ne_eqb (top w.pile) 0 z) (ap AtRow e)) p
+
   pub repeats_no_more : {r : ℕ} {pile : List ℕ} → Faces t first old (run.repeat r) w words buffer x → top w.pile ≡ 0 → pile ≡ rest w.pile
       → Shows t first old Settling (worked w.items pile w.listing) words buffer x
   unfolding settle
@@ -127,6 +140,10 @@ module _ {t : List ℕ} {first : ℕ} {old : List ℕ} {w : Work} {words buffer 
       taken : (l : List Item) → stack.first l ≡ Some i → items ≡ stack.others l → l ≡ i ∷ items
       taken [] e p = cc
       taken (j ∷ l) e p = cc
+
+-- a number that isn't n is past it
+pub past : (k n : ℕ) → n ≤ k → ¬ (k ≡ n) → suc n ≤ k
+past k n h e = omega arith
 
 pub exactly : (k n : ℕ) → k < suc n → n ≤ k → k ≡ n
 exactly k n l h = omega arith
