@@ -1,7 +1,7 @@
 // Resolves the raw rows in place, and keeps the least complaint about the names in them.
 #![tactic(auto)]
 
-ghost use Rattle.std.specs.Prelude.{◌≡◌, ℕ, ◌+◌, ◌-◌, ◌*◌, ◌<◌, ◌≤◌, List};
+ghost use Rattle.std.specs.Prelude.{◌≡◌, ℕ, ◌-◌, ◌*◌, ◌<◌, ◌≤◌, List};
 ghost use Rattle.std.proofs.lemmas.List.Edits.{sets};
 ghost use Rattle.x_program.specs.Layout.{row_words};
 ghost use Rattle.front_names_table.specs.Sorts.{number};
