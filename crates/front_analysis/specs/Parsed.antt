@@ -1,10 +1,12 @@
 -- What the reader's answer says of a source's tokens: 6, 7, or a program whose names come next. Laws; assumes nothing.
-use Rattle.std.specs.Prelude.{◌≡◌, List, ℕ, ◌+◌, ◌-◌, ◌*◌, ◌≤◌, ◌<◌, max, ltb, length, get_or, Result, Ok, Err}
+use Rattle.std.specs.Prelude.{◌≡◌, Bool, List, ℕ, ◌+◌, ◌-◌, ◌*◌, ◌≤◌, ◌<◌, max, ltb, length, get_or, Result, Ok, Err}
 use Rattle.std.proofs.Math.Path.{refl, ap}
-use Rattle.std.proofs.Common.{sym, subst, ◌∙◌, arith, lt-ltb, le-ltb}
+use Rattle.std.proofs.Common.{sym, subst, ◌∙◌, arith, lt-ltb, le-ltb, ltb-true, ltb-false}
+use Rattle.std.proofs.lemmas.List.{get_or_default, get_or_past}
 use Rattle.std.proofs.lemmas.List.Edits.{sets}
 use Rattle.std.proofs.Math.Seq.{length-sets}
 use Rattle.arm_word.specs.Choice.{pick}
+use Rattle.arm_word.specs.ChoiceLaws.{by_test}
 use Rattle.x_tokens.specs.Refusals as refusal
 use Rattle.x_tokens.specs.TokenList as token
 use Rattle.x_tokens.specs.TokenList.{Entry, entries}
@@ -41,6 +43,12 @@ same_token x y e = let z : x ≡ y = cc in ap (λ (x : Ungrammatical). x.token) 
 
 same_program : (x y : program_parsed.Parsed) → ◌≡◌ {A = Result program_parsed.Parsed Ungrammatical} (Ok x) (Ok y) → y ≡ x
 same_program x y e = cc
+
+-- an entry, or what stands behind the end
+pub place_or : (ps : List ℕ) (i d : ℕ) → get_or ps i d ≡ pick (ltb i (length ps)) (get_or ps i 0) d
+place_or ps i d =
+    by_test (λ (b : Bool). get_or ps i d ≡ pick b (get_or ps i 0) d) (ltb i (length ps))
+    (λ t. get_or_default ps i d 0 (ltb-true i (length ps) t)) (λ f. get_or_past ps i d (ltb-false i (length ps) f))
 
 module _ (source ks ps vs : List ℕ) (lp : length ps ≡ length ks) (lv : length vs ≡ length ks) where
   abbrev ts : List Entry

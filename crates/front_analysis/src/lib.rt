@@ -1,8 +1,8 @@
 // The front end: tokens, grammar, depth and names, in document 01's order.
 #![tactic(auto)]
 
-ghost use Rattle.std.specs.Prelude.{◌≡◌, ◌≤◌, ltb, length, get_or};
-ghost use Rattle.arm_word.specs.Choice.{pick};
+ghost use Rattle.std.specs.Prelude.{◌≡◌, ◌≤◌, length, get_or};
+ghost use Rattle.x_tokens.specs.declared.refusal.Reason.TheVariants.{Ungrammatical};
 ghost use Rattle.x_tokens.specs.TokenList as scanned;
 ghost use Rattle.x_grammar.specs.Grammar as grammar;
 ghost use Rattle.x_grammar.specs.Automaton.{reads};
@@ -12,10 +12,11 @@ ghost use Rattle.x_verdict.specs.Front.{front};
 ghost use Rattle.front_analysis.specs.Analysed.{Analysed, Parses};
 ghost use Rattle.front_analysis.specs.Named.{Ready, named_as};
 
+use arm_word::entry_or;
 use front_names_bind::bind;
 use front_names_resolve::resolve;
 use front_names_table::Names;
-use front_read_program::program;
+use front_read_program::{Parsed, program};
 use front_recognizer::{Fault, recognize};
 use x_program::row;
 use x_tokens::refusal::{Reason, Refusal};
@@ -45,37 +46,40 @@ fn whole(reason: Reason) -> Refusal
     Refusal { reason, place: 0 }
 }
 
-// The names of a program whose raw rows stand in the table: `start` is the process's first token.
+// The names of a program that was read and whose raw rows stand in the table.
 fn names(
     source: &[u8],
     tokens: TokenArrays,
     table: &mut [u32; 4096],
-    start: usize,
-    rows: usize,
-    depth: usize,
+    parsed: Parsed,
 ) -> Result<Accepted, Refusal>
-    requires { (start ≤ 1024) × (rows ≤ 1024) }
-    ensures { (p : grammar.Program) → Ready source.now tokens.entry.kinds.now tokens.entry.places.now tokens.entry.values.now p start rows depth table.old
+    requires { (parsed.start ≤ 1024) × (parsed.rows ≤ 1024) }
+    ensures { (p : grammar.Program)
+        → Ready source.now tokens.entry.kinds.now tokens.entry.places.now tokens.entry.values.now p parsed.start parsed.rows parsed.deepest table.old
         → Analysed (named_as source.now tokens.entry.kinds.now tokens.entry.places.now tokens.entry.values.now p) table.new result }
 {
     let mut names = Names::new();
-    let declared = bind(source, tokens, &mut names, table, start)?;
-    match resolve(source, tokens, &names, table, declared.rows, rows) {
+    let declared = bind(source, tokens, &mut names, table, parsed.start)?;
+    match resolve(source, tokens, &names, table, declared.rows, parsed.rows) {
         Some(refusal) => Err(refusal),
         None => Ok(Accepted {
             tokens: tokens.kinds.len(),
-            rows,
+            rows: parsed.rows,
             words: declared.words,
-            depth,
+            depth: parsed.deepest,
         }),
     }
 }
 
-// Where token i stands, or the end.
-fn place_of(places: &[u32], i: usize, end: u32) -> u32
-    ensures { result ≡ pick (ltb i (length places.now)) (get_or places.now i 0) end }
+// The refusal of a source whose tokens are no program: at the first token that none continues with, or at the source's end.
+fn ungrammatical(source: &[u8], tokens: TokenArrays, token: usize) -> Refusal
+    requires { length source.now ≤ 16384 }
+    ensures { result ≡ record { reason = Ungrammatical; place = get_or tokens.entry.places.now token (length source.now) } }
 {
-    places.get(i).copied().unwrap_or(end)
+    Refusal {
+        reason: Reason::Ungrammatical,
+        place: entry_or(tokens.places, token, source.len() as u32),
+    }
 }
 
 // The tokens are read into rows, the depth is tested, the names are resolved. `Bounded`, which the recognizer says, bounds the readers' stack.
@@ -88,15 +92,12 @@ fn read(source: &[u8], tokens: TokenArrays, table: &mut [u32; 4096]) -> Result<A
     ensures { Parses source.now (scanned.entries tokens.entry.kinds.now tokens.entry.places.now tokens.entry.values.now 0 (length tokens.entry.kinds.now)) table.new result }
 {
     match program(tokens, table) {
-        Err(x) => Err(Refusal {
-            reason: Reason::Ungrammatical,
-            place: place_of(tokens.places, x.token, source.len() as u32),
-        }),
+        Err(x) => Err(ungrammatical(source, tokens, x.token)),
         Ok(p) => {
             if DEPTH_LIMIT < p.depth.max(p.deepest) {
                 return Err(whole(Reason::DeepProgram));
             }
-            names(source, tokens, table, p.start, p.rows, p.deepest)
+            names(source, tokens, table, p)
         }
     }
 }
@@ -109,10 +110,7 @@ fn parse(source: &[u8], tokens: TokenArrays, table: &mut [u32; 4096]) -> Result<
     ensures { Parses source.now (scanned.entries tokens.entry.kinds.now tokens.entry.places.now tokens.entry.values.now 0 (length tokens.entry.kinds.now)) table.new result }
 {
     match recognize(tokens.kinds, table) {
-        Err(Fault::Ungrammatical(x)) => Err(Refusal {
-            reason: Reason::Ungrammatical,
-            place: place_of(tokens.places, x.token, source.len() as u32),
-        }),
+        Err(Fault::Ungrammatical(x)) => Err(ungrammatical(source, tokens, x.token)),
         Err(Fault::Deep) => Err(whole(Reason::DeepProgram)),
         Ok(()) => read(source, tokens, table),
     }

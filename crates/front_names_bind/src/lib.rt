@@ -37,6 +37,7 @@ fn constant_at(source: &[u8], tokens: TokenArrays, names: &Names, j: usize) -> R
 }
 
 // A name of n bytes at p and its item into the name table, and the item's row, if it has one, into the syntax table.
+// Six parameters here and in `declare`: the two tables are lent apart, since constants and names are looked up in the one alone, and the syntax table is its caller's.
 fn enter(
     names: &mut Names,
     table: &mut [u32; 4096],

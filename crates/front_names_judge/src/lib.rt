@@ -99,6 +99,7 @@ pub fn constant_of(m: Meaning) -> Result<u32, Reason>
 }
 
 // What a specification of kind k deserves: m is what its name stands for already, p the name's place, q that of its constant, c.
+// Seven parameters: its one caller has each from elsewhere (tokens, name table, counts so far), and a record of them would be taken apart here at once.
 pub fn judge(
     k: u8,
     m: Meaning,

@@ -14,7 +14,8 @@ use Rattle.x_grammar.specs.RawRowLaws.{sets_rows}
 use Rattle.x_program.specs.Layout.{row_words}
 use Rattle.x_program.specs.Layout as layout
 use Rattle.x_program.specs.Rows.{row}
-use Rattle.x_program.specs.Table.{word}
+use Rattle.x_program.specs.Table.{word, row_in}
+use Rattle.x_program.specs.declared.table.Row.{Row}
 use Rattle.x_program.specs.TableReadBack.{Holds}
 use Rattle.x_names.specs.Scope.{Meaning, unknown, variable, array, constant, Entry, Scope, lookup, word_of, meaning_of}
 use Rattle.x_names.specs.Complaints.{as_value, as_target, as_array, at, Verdict, fine, refused, least}
@@ -163,18 +164,19 @@ module _ (source places lengths : List ℕ) (es : List Entry) where
   abbrev pub walk_of : ℕ → List ℕ → ℕ → Verdict → Walked
   walk_of = walk (text_at source places lengths) (place_at places) (scope_of es)
 
-  pub walk_turn : (t t' : List ℕ) (r end : ℕ) (v v' : Verdict) (k a b c p n : ℕ) (m : Meaning) → r < end
-      → k ≡ get_or t (row_words * r) 0 → a ≡ get_or t (row_words * r + 1) 0 → b ≡ get_or t (row_words * r + 2) 0 → c ≡ get_or t (row_words * r + 3) 0
-      → p ≡ get_or places a 0 → n ≡ get_or lengths a 0 → m ≡ bare (lookup es (take n (drop p source)))
-      → t' ≡ sets t (row_words * r) (row_by k m a b c) → v' ≡ lesser_of v (judged_by (complaint k (sort_of m)) p)
+  pub walk_turn : (t t' : List ℕ) (r end : ℕ) (v v' : Verdict) (w : Row) (p n : ℕ) (m : Meaning) → r < end → w ≡ row_in t r
+      → p ≡ get_or places w.a 0 → n ≡ get_or lengths w.a 0 → m ≡ bare (lookup es (take n (drop p source)))
+      → t' ≡ sets t (row_words * r) (row_by w.kind m w.a w.b w.c) → v' ≡ lesser_of v (judged_by (complaint w.kind (sort_of m)) p)
       → walk_of (end - r) t r v ≡ walk_of (end - (r + 1)) t' (r + 1) v'
   unfolding walk
-  walk_turn t t' r end v v' k a b c p n m l ek ea eb ec ep en em et ev =
+  walk_turn t t' r end v v' w p n m l ew ep en em et ev =
       let z : end - r ≡ suc (end - (r + 1)) = omega arith in
       let x = lookup es (take n (drop p source)) in
-      let et' : t' ≡ sets t (row_words * r) (row_by k x a b c) = et ∙ ap (sets t (row_words * r)) (ap (λ (y : Meaning). row_by k y a b c) em ∙ row_bare k x a b c) in
-      let ev' : v' ≡ lesser_of v (judged_by (complaint k (sort_of x)) p) = ev ∙ ap (λ (y : ℕ). lesser_of v (judged_by (complaint k y) p)) (ap sort_of em ∙ sort_bare x) in
-      rw (z, et', ev', en, ep, ec, eb, ea, ek, ← word_zero t r)
+      let et' : t' ≡ sets t (row_words * r) (row_by w.kind x w.a w.b w.c) =
+      et ∙ ap (sets t (row_words * r)) (ap (λ (y : Meaning). row_by w.kind y w.a w.b w.c) em ∙ row_bare w.kind x w.a w.b w.c) in
+      let ev' : v' ≡ lesser_of v (judged_by (complaint w.kind (sort_of x)) p) =
+      ev ∙ ap (λ (y : ℕ). lesser_of v (judged_by (complaint w.kind y) p)) (ap sort_of em ∙ sort_bare x) in
+      rw (z, et', ev', en, ep, ew) refl
 
   pub walk_end : (t : List ℕ) (r end : ℕ) (v : Verdict) → end ≤ r → walk_of (end - r) t r v ≡ walked t v
   unfolding walk

@@ -1,7 +1,7 @@
 // Resolves the raw rows in place, and keeps the least complaint about the names in them.
 #![tactic(auto)]
 
-ghost use Rattle.std.specs.Prelude.{◌≡◌, ℕ, ◌+◌, ◌-◌, ◌*◌, ◌<◌, ◌≤◌, List, get_or};
+ghost use Rattle.std.specs.Prelude.{◌≡◌, ℕ, ◌-◌, ◌*◌, ◌<◌, ◌≤◌, List};
 ghost use Rattle.std.proofs.lemmas.List.Edits.{sets};
 ghost use Rattle.x_program.specs.Layout.{row_words};
 ghost use Rattle.front_names_table.specs.Sorts.{number};
@@ -16,6 +16,7 @@ ghost use Rattle.front_names_resolve.specs.ResolvingWalk as spec;
 use front_names_table::{Meaning, Names, Sort, number};
 use front_read_expressions::put;
 use x_program::row;
+use x_program::table::{Row, row_at};
 use x_tokens::TokenArrays;
 use x_tokens::refusal::{Reason, Refusal};
 
@@ -117,25 +118,26 @@ fn names_one(kind: u32) -> bool
     matches!(kind, row::ELEMENT | row::ASSIGN | row::ASSIGN_ELEMENT)
 }
 
-// Row r, which is (k, a, b, c) and whose name stands for m, is resolved.
-fn resolve_row(table: &mut [u32; 4096], r: usize, m: Meaning, k: u32, a: u32, b: u32, c: u32)
+// Row r, which is `raw` and whose name stands for m, is resolved.
+fn resolve_row(table: &mut [u32; 4096], r: usize, m: Meaning, raw: Row)
     requires { r < 1024 }
-    ensures { table.new ≡ sets table.old (row_words * r) (spec.row_by k (meant m) a b c) }
+    ensures { table.new ≡ sets table.old (row_words * r) (spec.row_by raw.kind (meant m) raw.a raw.b raw.c) }
 {
-    if k == row::VARIABLE {
+    if raw.kind == row::VARIABLE {
         if let Meaning::Constant(word) = m {
             put(table, r, row::NUMBER, word, 0, 0);
         } else {
             put(table, r, row::VARIABLE, row_of(m), 0, 0);
         }
-    } else if names_one(k) {
-        put(table, r, k, row_of(m), b, c);
+    } else if names_one(raw.kind) {
+        put(table, r, raw.kind, row_of(m), raw.b, raw.c);
     } else {
-        put(table, r, k, a, b, c);
+        put(table, r, raw.kind, raw.a, raw.b, raw.c);
     }
 }
 
 // Rows `first` up to `end` of the table are resolved; the least complaint about their names.
+// Six parameters: what is read is lent apart from the table, which changes, and the rows' bounds come from two answers, `bind`'s and the reader's.
 pub fn resolve(
     source: &[u8],
     tokens: TokenArrays,
@@ -152,15 +154,12 @@ pub fn resolve(
 {
     let mut least = None;
     for r in first..end {
-        let k = table[row::WORDS * r];
-        let a = table[row::WORDS * r + 1];
-        let b = table[row::WORDS * r + 2];
-        let c = table[row::WORDS * r + 3];
-        let p = number(tokens.places, a as usize);
-        let n = number(tokens.values, a as usize);
+        let raw = row_at(table, r);
+        let p = number(tokens.places, raw.a as usize);
+        let n = number(tokens.values, raw.a as usize);
         let m = names.stands_for(source, p, n);
-        least = lesser(least, complaint_at(complaint(k, sort_of(m)), p));
-        resolve_row(table, r, m, k, a, b, c);
+        least = lesser(least, complaint_at(complaint(raw.kind, sort_of(m)), p));
+        resolve_row(table, r, m, raw);
     }
     least
 }

@@ -109,7 +109,7 @@ impl Names {
         Meaning::Unknown
     }
 
-    // A name more, of n bytes at p.
+    // A name more, of n bytes at p. Six parameters: an entry of each array, and no record that would be taken apart here at once.
     pub fn add(&mut self, p: u32, n: u32, row: u32, sort: Sort, word: u32)
         requires { self.old.count < 256 }
         ensures count { self.new.count ≡ self.old.count + 1 }

@@ -51,7 +51,7 @@ pub fn kind_at(kinds: &[u8], i: usize) -> u8
     entry_or(kinds, i, 0)
 }
 
-// Row n of the table.
+// Row n of the table. Six parameters: the words one by one and no Row, since a literal of four named fields at each of the many calls would be no plainer.
 pub fn put(table: &mut [u32; 4096], n: usize, kind: u32, a: u32, b: u32, c: u32)
     requires { n < 1024 }
     ensures { table.new ≡ sets table.old (row_words * n) (row kind a b c) }

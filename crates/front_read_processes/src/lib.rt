@@ -101,6 +101,8 @@ fn join(table: &mut [u32; 4096], pending: &[u16; 1024], top: usize, count: usize
 }
 
 // A process at token i; its rows are from row n on. Lists around it use `pending` below `top`.
+// Six parameters, as in what it calls with `pending`: `table` and `pending` are lent apart, since expressions take the one alone;
+// and `pending` with `top` is no stack of its own, since a list reads its part of it from the front.
 #[cycle(braces_conditional_list_process_repetition)]
 pub fn process(
     tokens: TokenArrays,

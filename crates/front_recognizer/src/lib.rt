@@ -14,7 +14,7 @@ ghost use Rattle.front_recognizer.specs.Recognized.{Says, refused_at, ended};
 use crate::mark::Mark;
 use crate::mode::Mode;
 use front_read_expressions::{Ungrammatical, is_diadic, is_monadic, put};
-use x_program::row;
+use x_program::table::row_at;
 use x_spelling::kind;
 
 // How far levels are counted: the limit of depth.
@@ -94,11 +94,8 @@ fn leave(mode: Mode, operator: u32, level: u32) -> Action
     ensures { result ≡ rules.leave mode operator level }
 {
     Action {
-        mode,
-        operator,
-        level,
         pops: true,
-        pushed: None,
+        ..stay(mode, operator, level)
     }
 }
 
@@ -371,11 +368,11 @@ fn innermost(table: &[u32; 4096], height: usize) -> Frame
     if height == 0 {
         return no_frame();
     }
-    let n = height - 1;
+    let w = row_at(table, height - 1);
     Frame {
-        mark: Mark::from(table[row::WORDS * n]),
-        operator: table[row::WORDS * n + 1],
-        level: table[row::WORDS * n + 2],
+        mark: Mark::from(w.kind),
+        operator: w.a,
+        level: w.b,
     }
 }
 
@@ -392,8 +389,8 @@ fn popped(height: usize, pops: bool) -> usize
 
 // The stack after an action.
 fn apply(table: &mut [u32; 4096], height: usize, a: Action) -> Control
-    requires { (length table.old ≡ 4096) × (height < 1024) }
-    ensures { (viewed table.new result ≡ rules.act a (rules.frames table.old height)) × (result.height ≤ height + 1) × (length table.new ≡ 4096) }
+    requires { height < 1024 }
+    ensures { (viewed table.new result ≡ rules.act a (rules.frames table.old height)) × (result.height ≤ height + 1) }
 {
     let mut h = popped(height, a.pops);
     if let Some(f) = a.pushed {
@@ -410,8 +407,8 @@ fn apply(table: &mut [u32; 4096], height: usize, a: Action) -> Control
 
 // The control after a token of kind k.
 fn advance(table: &mut [u32; 4096], c: Control, k: u8) -> Control
-    requires { (length table.old ≡ 4096) × (c.height < 1024) }
-    ensures { (viewed table.new result ≡ rules.advance (viewed table.old c) k) × (result.height ≤ c.height + 1) × (length table.new ≡ 4096) }
+    requires { c.height < 1024 }
+    ensures { (viewed table.new result ≡ rules.advance (viewed table.old c) k) × (result.height ≤ c.height + 1) }
 {
     let height = c.height;
     let f = innermost(table, height);
@@ -466,8 +463,8 @@ fn at_end(complete: bool, deep: bool, n: usize) -> Result<(), Fault>
 // Whether the tokens are a program, and where not; the table is the stack.
 // Open: what it leaves in the table.
 pub fn recognize(kinds: &[u8], table: &mut [u32; 4096]) -> Result<(), Fault>
-    requires { (length kinds.now ≤ 1024) × (length table.old ≡ 4096) }
-    ensures { ((values : List ℕ) → Says (length kinds.now) (reads (unread kinds.now values 0)) result) × (length table.new ≡ 4096) }
+    requires { length kinds.now ≤ 1024 }
+    ensures { (values : List ℕ) → Says (length kinds.now) (reads (unread kinds.now values 0)) result }
 {
     let mut c = Control {
         mode: Mode::Front,
