@@ -12,19 +12,20 @@ ghost use Rattle.arm_machine.specs.Refusals as refusals;
 
 use arm_state::{Core, Fault, Machine, Stepped, Stop, Stopped};
 
-// Why a call is refused; `number` has document 01's number.
+// Why a call is refused, with the numbers of specs/Refusals.antt.
 #[derive(Clone, Copy, PartialEq, Eq)]
 pub enum Refusal {
-    CodeTooLong,
-    MemoryTooLong,
+    CodeTooLong = 31,
+    MemoryTooLong = 32,
     // Fewer lent words than needed.
-    MemoryTooShort,
+    MemoryTooShort = 33,
     // Declared words above 8,192, or a depth above 32.
-    ProgramTooLarge,
+    ProgramTooLarge = 34,
 }
 
 // What a run did (as a step's status and number; 0 where the limit was reached), and how many instructions it completed.
-// Numbers, and no enum, as in `Started` and in `Stepped`: it is what C gets, and what `Demand1` and `Demand3` of theorem_demands speak of.
+// Numbers, and no enum, as in `Started` and in `Stepped`: it is what C gets, and what `Demand1` of theorem_demands and
+// `Demand3` of theorem_simulation speak of.
 #[derive(Clone, Copy)]
 pub struct Ran {
     pub machine: Machine,
@@ -43,16 +44,12 @@ const CODE_LIMIT: usize = 65536;
 
 const MEMORY_LIMIT: usize = 16384;
 
-impl Refusal {
-    pub fn number(self) -> u32
-        ensures { result ≡ refusals.number_of self }
-    {
-        match self {
-            Refusal::CodeTooLong => 31,
-            Refusal::MemoryTooLong => 32,
-            Refusal::MemoryTooShort => 33,
-            Refusal::ProgramTooLarge => 34,
-        }
+// The number that document 01 gives it.
+impl From<Refusal> for u32 {
+    ghost from_gives = { λ refusal n. n ≡ refusals.number_of refusal };
+
+    fn from(refusal: Refusal) -> u32 {
+        refusal as u32
     }
 }
 
@@ -106,7 +103,7 @@ fn unlisted(core: Core, h: u16, k: u16) -> Stopped
 }
 
 // Fetch, decode, execute. The loop of `run` is its only caller, and it is decode's and execute's: the compiler builds such a
-// function into its caller, and the state stays where it is from one instruction to the next.
+// function into its caller, and the state stays where it is from one instruction to the next. Document 01 asks for `let else` here.
 fn once(core: Core, code: &[u8], memory: &mut [u32]) -> Result<Core, Stopped>
     ensures { cores.turned result memory.new ≡ (steps.once_of code.now memory.old (cores.whole core)).after }
 {
@@ -152,7 +149,7 @@ pub fn run(machine: Machine, code: &[u8], memory: &mut [u32], limit: u64) -> Ran
     if let Err(refusal) = check_lengths(code, memory) {
         return Ran {
             machine,
-            status: refusal.number(),
+            status: u32::from(refusal),
             number: 0,
             count: 0,
         };
@@ -216,7 +213,7 @@ pub fn start(code: &[u8], memory: &[u32], declared: u32, depth: u32) -> Started
             machine: Machine::fresh(declared, depth),
         },
         Err(refusal) => Started {
-            status: refusal.number(),
+            status: u32::from(refusal),
             machine: Machine::zeros(),
         },
     }

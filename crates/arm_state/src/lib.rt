@@ -2,7 +2,7 @@
 // `Machine` is the state as callers hold it, `Core` the same as a run holds it.
 #![tactic(auto)]
 
-ghost use Rattle.std.specs.Prelude.{◌≡◌, ◌+◌, ◌*◌, ◌<◌, eqb, length, get_or};
+ghost use Rattle.std.specs.Prelude.{◌≡◌, ◌+◌, ◌*◌, ◌<◌, eqb};
 ghost use Rattle.arm_state.specs.State as state;
 ghost use Rattle.arm_state.specs.Effects as spec;
 ghost use Rattle.arm_state.specs.Stops as stops;
@@ -34,7 +34,8 @@ pub struct Machine {
 }
 
 // What a step did: status 0 one instruction, 1 an SVC, whose number is `number`, 21 to 24 a fault, 26 one whose class is
-// `number`, 31 and 32 a refusal. Numbers, and no enum: it is what C gets, and what `Demand1` and `Demand3` of theorem_demands speak of.
+// `number`, 31 and 32 a refusal. Numbers, and no enum: it is what C gets, and what `Demand1` of theorem_demands and `Demand3` of
+// theorem_simulation speak of.
 #[derive(Clone, Copy)]
 pub struct Stepped {
     pub machine: Machine,
@@ -96,6 +97,7 @@ pub fn needed(d: u32, n: u32) -> u64
     (d as u64) + 2 * (n as u64) + 8
 }
 
+// No discriminants and no `From`, here and in `Stop`: with a payload in one case there is no `as`, and a `From` would be the same `match`.
 impl Fault {
     pub fn number(self) -> u32
         ensures { result ≡ stops.fault_number self }
@@ -420,6 +422,7 @@ impl Core {
         }
     }
 
+    // Here and in `store` document 01 asks for `let else`, and no `?`.
     pub fn load(self, d: u8, a: u32, code: &[u8], memory: &[u32]) -> Result<Core, Stopped>
         ensures { core.turned result memory.now ≡ (spec.load code.now memory.now (core.whole self) d a).after }
     {
@@ -472,9 +475,7 @@ fn word_at(code: &[u8], memory: &[u32], a: u32) -> Option<u32>
     if i + 4 <= code.len() {
         return Some(u32::from_le_bytes([code[i], code[i + 1], code[i + 2], code[i + 3]]));
     }
-    let Some(j) = slot_of(a, memory.len()) else {
-        return None;
-    };
+    let j = slot_of(a, memory.len())?;
     Some(memory[j])
 }
 

@@ -15,15 +15,18 @@ pub fn put(code: &mut [u8], at: usize, i: Instr) -> usize
     match arm_encoding::encode(i) {
         None => at,
         Some(Halfwords::One(first)) => {
-            code[at] = (first % 256) as u8;
-            code[at + 1] = (first / 256) as u8;
+            let [low, high] = first.to_le_bytes();
+            code[at] = low;
+            code[at + 1] = high;
             at + 2
         }
         Some(Halfwords::Two(first, second)) => {
-            code[at] = (first % 256) as u8;
-            code[at + 1] = (first / 256) as u8;
-            code[at + 2] = (second % 256) as u8;
-            code[at + 3] = (second / 256) as u8;
+            let [low, high] = first.to_le_bytes();
+            let [next_low, next_high] = second.to_le_bytes();
+            code[at] = low;
+            code[at + 1] = high;
+            code[at + 2] = next_low;
+            code[at + 3] = next_high;
             at + 4
         }
     }
@@ -76,14 +79,15 @@ impl<'a> Writer<'a> {
                 Instr::Shli(below as u8, d, d),
             ]);
         }
+        let [first, second, third, fourth] = w.to_be_bytes();
         self.put_all(&[
-            Instr::Movi(d, (w / 16777216) as u8),
+            Instr::Movi(d, first),
             Instr::Shli(8, d, d),
-            Instr::Addi(d, (w / 65536 % 256) as u8),
+            Instr::Addi(d, second),
             Instr::Shli(8, d, d),
-            Instr::Addi(d, (w / 256 % 256) as u8),
+            Instr::Addi(d, third),
             Instr::Shli(8, d, d),
-            Instr::Addi(d, (w % 256) as u8),
+            Instr::Addi(d, fourth),
         ])
     }
 }

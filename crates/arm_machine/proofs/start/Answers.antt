@@ -12,4 +12,4 @@ returns-in-Ok c = rw (sym c.check_start.ensures ∙ ap answered c.in-Ok.is, c.fr
 
 pub returns-in-Err : goal.returns-in-Err
 unfolding start_of
-returns-in-Err c = rw (sym c.check_start.ensures ∙ ap answered c.in-Err.is, refusal_not_0 _, c.number.ensures, c.zeros.ensures)
+returns-in-Err c = rw (sym c.check_start.ensures ∙ ap answered c.in-Err.is, refusal_not_0 _, c.from.ensures, c.zeros.ensures)

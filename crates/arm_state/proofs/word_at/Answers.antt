@@ -13,21 +13,18 @@ pub returns-then-i-code : goal.returns-then-i-code
 unfolding word_at
 returns-then-i-code c = rw (le-leb _ _ c.if-i-code.true) (ap Some (c.from_le_bytes.ensures ∙ omega arith))
 
-pub returns-in_default : goal.returns-in_default
+pub returns-in_err-j : goal.returns-in_err-j
 unfolding word_at
-returns-in_default c =
+returns-in_err-j c =
     let x = c.args in
-    rw (lt-leb _ _ c.if-i-code.false) (ap (data_word x.memory.now) (sym c.in_default.is ∙ c.slot_of.ensures))
+    rw (lt-leb _ _ c.if-i-code.false, c.from_residual.ensures) (ap (data_word x.memory.now) (sym c.in_err-j.was ∙ c.slot_of.ensures))
 
 pub offset_bounds-memory-j : goal.offset_bounds-memory-j
-offset_bounds-memory-j c = let l = slot_lt _ _ _ (sym c.slot_of.ensures ∙ c.in-Some.is) in search rules
+offset_bounds-memory-j c = let l = slot_lt _ _ _ (sym c.slot_of.ensures ∙ c.in_ok-j.was) in search rules
 
 pub bounds-memory-j : goal.bounds-memory-j
-bounds-memory-j c = slot_lt _ _ _ (sym c.slot_of.ensures ∙ c.in-Some.is)
+bounds-memory-j c = slot_lt _ _ _ (sym c.slot_of.ensures ∙ c.in_ok-j.was)
 
 pub returns : goal.returns
 unfolding word_at
-returns c =
-    let slot_of = c.slot_of in let if1 = c.if-i-code in
-    let x = c.args in
-    rw (lt-leb _ _ if1.false) (ap (data_word x.memory.now) (sym c.in-Some.is ∙ slot_of.ensures))
+returns c = rw (lt-leb _ _ c.if-i-code.false) (ap (data_word c.args.memory.now) (sym c.in_ok-j.was ∙ c.slot_of.ensures))
