@@ -1,30 +1,21 @@
 // The listing of a source: the lines of its image, or its report where it is refused.
 #![tactic(auto)]
 
-ghost use Rattle.std.specs.Prelude.{◌≡◌, ◌<◌, ◌≤◌, min, length, get_or};
+ghost use Rattle.std.specs.Prelude.{◌≡◌, ◌<◌, ◌≤◌, min, length};
 ghost use Rattle.arm_machine.specs.Step.{half_at};
 ghost use Rattle.text_disassembly.specs.ImageLines.{text_from};
 ghost use Rattle.text_buffer.specs.Buffer.{left, placed, overwritten};
 ghost use Rattle.text_listing.specs.Listing.{listing_of};
 
+use arm_word::entry_or;
 use text_buffer::append_line;
 
-// A byte of the image, 0 past its end.
-fn byte(image: &[u8], at: usize) -> u16
-    ensures { (result ≡ get_or image.now at 0) × (result < 256) }
-{
-    match image.get(at) {
-        Some(b) => *b as u16,
-        None => 0,
-    }
-}
-
-// Two bytes of the image, the lower first.
+// Two bytes of the image, the lower first; 0 past its end.
 fn halfword(image: &[u8], at: usize) -> u16
     requires { at < 65540 }
     ensures { result ≡ half_at image.now at }
 {
-    byte(image, at) + 256 * byte(image, at + 1)
+    u16::from_le_bytes([entry_or(image, at, 0), entry_or(image, at + 1, 0)])
 }
 
 // The lines of an image, from its first instruction to its last. A `while`, since an instruction has one halfword or two.

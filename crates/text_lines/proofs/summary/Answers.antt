@@ -4,7 +4,7 @@ use mathlib.Core.Path.{◌∙◌, ap}
 use mathlib.Core.List.{List, ◌++◌}
 use Prim.Native.Nat.{ℕ}
 use Rattle.text_lines.specs.Text as spec
-use Rattle.text_lines.specs.Text.{written, fitted, summary}
+use Rattle.text_lines.specs.Text.{fitted, summary}
 use Rattle.arm_word.specs.Ascii.{ascii}
 use Rattle.text_lines.specs.LineLaws.{joined, summary_fits}
 use Rattle.text_lines.proofs.summary.Goals as goal
