@@ -1,4 +1,6 @@
-// Texts one after another in a lent buffer, as far as there is room.
+// Texts one after another in a lent buffer, as far as there is room. The place is an argument beside the buffer and the answer, not a field of
+// a writer: one equation with `placed` says all, where a writer that lends the buffer on needs a second clause in each function, that it is the
+// same buffer; and `reason` of text_refusal and `lines` of text_names keep their signatures.
 #![tactic(auto)]
 
 ghost use Rattle.std.specs.Prelude.{◌≡◌};

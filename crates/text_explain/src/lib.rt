@@ -37,7 +37,7 @@ fn put_accepted(source: &[u8], t: Translation, out: &mut [u8]) -> usize
     text_names::lines(source, out, headed)
 }
 
-// Numbers whose refusal concerns the source as a whole.
+// Numbers whose refusal concerns the source as a whole. By number, as `Translation` and `spec.placeless` have it.
 #[tactic(auto, unfolding(crate::specs::Explain::placeless))]
 fn placeless(n: u32) -> bool
     ensures { result ≡ spec.placeless n }

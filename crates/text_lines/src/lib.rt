@@ -7,6 +7,8 @@ ghost use Rattle.text_lines.specs.Text.{written, fitted};
 
 // The first `length` of the bytes; what does not fit is left out. An `ArrayVec` is no plainer: only its `as_slice` says that it has
 // at most 128 bytes, which `fitted` needs, so that `Line` would need a ghost field beside it.
+// It is moved: each method takes it and hands it on, so that a line is one chain of calls. Its digits are written by hand, since `written` is
+// an equation with specs/Text and nothing here may fail, as `write!` may.
 #[derive(Drop)]
 pub struct Line {
     pub bytes: [u8; 128],
@@ -91,7 +93,7 @@ impl Line {
     }
 }
 
-// What a translation answers: the seven numbers of the report.
+// What a translation answers: the seven numbers of the report. Not `Translation` of translate_source: this crate stands below that one.
 #[derive(Clone, Copy)]
 pub struct Answer {
     pub status: u32,

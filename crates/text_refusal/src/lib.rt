@@ -1,15 +1,14 @@
 // What is wrong with a refused source.
 #![tactic(auto)]
 
-ghost use Rattle.std.specs.Prelude.{◌≡◌, List, ℕ};
+ghost use Rattle.std.specs.Prelude.{◌≡◌, List, ℕ, min, length};
 ghost use Rattle.x_tokens.specs.TokenList.{entries, outcome};
 ghost use Rattle.text_lines.specs.Text.{written, fitted};
 ghost use Rattle.text_buffer.specs.Buffer.{left, placed};
 ghost use Rattle.text_refusal.specs.Refusal as spec;
 ghost use Rattle.text_refusal.specs.Refusal.{near_in, no_token, reason_of};
 
-use front_names_table::number;
-use front_read_expressions::{is_diadic, kind_at};
+use front_read_expressions::is_diadic;
 use text_buffer::append_line;
 use text_lines::Line;
 use x_spelling::kind;
@@ -17,9 +16,7 @@ use x_tokens::refusal::Reason;
 
 const NO_TOKEN: u8 = 0;
 
-const GRAMMAR: u32 = 6;
-
-// The kinds of the token at a place and of the two before it; 0 where there is none.
+// The kinds of the token at a place and of the two before it; 0 where there is none, as `no_token` of specs/Refusal.
 #[derive(Clone, Copy)]
 pub struct Near {
     pub before: u8,
@@ -99,23 +96,22 @@ fn sentence(n: u32) -> Line
     late_sentence(n)
 }
 
-// The first of n tokens at a place or after it, with the two before it.
-fn near_in(kinds: &[u8], places: &[u32], n: usize, place: u32) -> Near
-    ensures { (vs : List ℕ) → result ≡ near_in (entries kinds.now places.now vs 0 n) place no_token no_token }
+// The first token at a place or after it, with the two before it.
+fn near_in(kinds: &[u8], places: &[u32], place: u32) -> Near
+    ensures { (vs : List ℕ) → result ≡ near_in (entries kinds.now places.now vs 0 (min (length kinds.now) (length places.now))) place no_token no_token }
 {
     let mut before = NO_TOKEN;
     let mut previous = NO_TOKEN;
-    for i in 0..n {
-        let met = kind_at(kinds, i);
-        if place <= number(places, i) {
+    for (kind, at) in kinds.iter().zip(places) {
+        if place <= *at {
             return Near {
                 before,
                 previous,
-                met,
+                met: *kind,
             };
         }
         before = previous;
-        previous = met;
+        previous = *kind;
     }
     Near {
         before,
@@ -138,7 +134,7 @@ fn met_at(source: &[u8], place: u32) -> Near
             previous: NO_TOKEN,
             met: NO_TOKEN,
         },
-        Ok(n) => near_in(&kinds, &places, n, place),
+        Ok(n) => near_in(&kinds[..n], &places[..n], place),
     }
 }
 
@@ -258,7 +254,7 @@ fn met_sentence(m: u8) -> Line
 pub fn reason(source: &[u8], n: u32, place: u32, out: &mut [u8], at: usize) -> usize
     ensures { left out.new result ≡ placed out.old at (reason_of source.now n place) }
 {
-    if n != GRAMMAR {
+    if n != Reason::Ungrammatical as u32 {
         return append_line(out, at, sentence(n));
     }
     let near = met_at(source, place);

@@ -12,11 +12,11 @@ use Rattle.text_refusal.specs.Refusal as spec
 use Rattle.text_refusal.specs.RefusalRoom.{sentence_whole, met_whole, hint_whole}
 use Rattle.text_refusal.proofs.reason.Goals as goal
 
-pub returns-then-n-ne-GRAMMAR : goal.returns-then-n-ne-GRAMMAR
+pub returns-then-n : goal.returns-then-n
 unfolding spec.reason_of
-returns-then-n-ne-GRAMMAR c = let x = c.args in
+returns-then-n c = let x = c.args in
     let s = c.sentence.ensures ∙ sentence_whole x.n in
-    c.append_line.ensures ∙ ap (placed x.out.now x.at) (pick_f _ _ _ _ (ne_eqb _ _ c.if-n-ne-GRAMMAR.true) s)
+    c.append_line.ensures ∙ ap (placed x.out.now x.at) (pick_f _ _ _ _ (ne_eqb _ _ c.if-n.true) s)
 
 pub returns : goal.returns
 unfolding spec.reason_of
@@ -28,4 +28,4 @@ returns c = let x = c.args in
     c.append_line-2.ensures ∙ then _ _ _ _ m (written c.hint.result) c.append_line-said.ensures
     ∙ (λ j. placed x.out.now x.at (said j ++ meant j))
     ∙ ap (λ (m : Near). placed x.out.now x.at (spec.grammar_text m)) c.met_at-near.ensures
-    ∙ ap (placed x.out.now x.at) (pick_t _ _ _ _ (eq-eqb _ _ c.if-n-ne-GRAMMAR.false) refl)
+    ∙ ap (placed x.out.now x.at) (pick_t _ _ _ _ (eq-eqb _ _ c.if-n.false) refl)
