@@ -16,7 +16,11 @@ fn case(rt: &impl Print, source: &str) {
     let _ = print!(rt; "{source} ->");
     match answer {
         Err(refusal) => {
-            let _ = print!(rt; " refused {} at {}", u32::from(refusal.reason), refusal.place);
+            let _ = print!(rt;
+                " refused {} at {}",
+                u32::from(refusal.reason),
+                refusal.place
+            );
         }
         Ok(n) => all(rt, &kinds, &places, &values, n),
     }
