@@ -1,4 +1,4 @@
-// What a walk works with: what it is at, the things to do, the pile of words, and the lent buffer for accesses.
+// What a walk works with: the things to do, the pile of words, and the list of the accesses that were made.
 #![tactic(auto)]
 
 pub mod access;

@@ -1,4 +1,5 @@
-// A stack in memory of its own.
+// A stack in memory of its own. It is no `ArrayVec`: that one asks a `Default` of its values, which `Item` has not; its list has the last
+// pushed last, where the definitions have the last first; and its `pop` doesn't promise what `room` does here.
 ghost use Rattle.std.specs.Prelude.{◌≡◌, ◌<◌, ◌≤◌, List, [], ◌∷◌, length};
 ghost use Rattle.walker_arrays.specs.Stacks.{first, others};
 

@@ -21,6 +21,8 @@ use walker_arrays::{Pile, Work, set_word, take, top};
 use walker_operators::{diadic, monadic};
 use x_program::table::{Row, row_at};
 
+// Table, words, accesses and work are passed side by side, and not as one struct: a step's parameters say which of them it touches.
+
 // ---- one thing to do ----
 
 fn work_monadic(table: &[u32], pile: &mut Pile, r: u32) -> Mode

@@ -41,7 +41,7 @@ pub struct Walked {
     pub accesses: u64,
 }
 
-// What is to do up to the next row that is begun, or the end.
+// What is to do up to the next row that is begun, or the end. The four stand side by side here and below, for the reason in walker_items.
 fn settle(
     table: &[u32],
     words: &mut [u32],
