@@ -1,6 +1,5 @@
 -- The state as a run holds it, r0 to r7 as fields. Definitions; rests on State and Effects.
-use Rattle.std.specs.Prelude.{ℕ, List, [], ◌∷◌, Result, Ok, Err, eqb}
-use Rattle.arm_word.specs.Choice.{pick}
+use Rattle.std.specs.Prelude.{ℕ, List, [], ◌∷◌, Result, Ok, Err}
 use Rattle.arm_state.specs.Effects.{After, after, done}
 use Rattle.arm_state.specs.Stops.{fault_number, class_of, status_of, number_of}
 use Rattle.arm_state.specs.declared.Core.{Core}
@@ -35,7 +34,3 @@ stepped (Err s) = stopped s
 -- with the words of data after it
 abbrev pub turned : Result Core Stopped → List ℕ → After
 turned t w = after (stepped t) w
-
--- one of r0 to r3, or v
-abbrev pub low : Core → ℕ → ℕ → ℕ
-low c r v = pick (eqb r 0) c.r0 (pick (eqb r 1) c.r1 (pick (eqb r 2) c.r2 (pick (eqb r 3) c.r3 v)))

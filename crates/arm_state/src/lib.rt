@@ -234,36 +234,20 @@ impl From<Core> for Machine {
 }
 
 impl Core {
-    // r0 to r3, or v.
-    fn low(self, r: u8, v: u32) -> u32
-        ensures { result ≡ core.low self r v }
-    {
-        choose(
-            r == 0,
-            self.r0,
-            choose(
-                r == 1,
-                self.r1,
-                choose(r == 2, self.r2, choose(r == 3, self.r3, v)),
-            ),
-        )
-    }
-
     pub fn reg(self, r: u8) -> u32
         ensures { result ≡ state.reg (core.whole self) r }
     {
-        self.low(
-            r,
-            choose(
-                r == 4,
-                self.r4,
-                choose(
-                    r == 5,
-                    self.r5,
-                    choose(r == 6, self.r6, choose(r == 7, self.r7, 0)),
-                ),
-            ),
-        )
+        match r {
+            0 => self.r0,
+            1 => self.r1,
+            2 => self.r2,
+            3 => self.r3,
+            4 => self.r4,
+            5 => self.r5,
+            6 => self.r6,
+            7 => self.r7,
+            _ => 0,
+        }
     }
 
     // The next instruction, of one halfword.

@@ -3,7 +3,7 @@
 
 ghost use Rattle.std.specs.Prelude.{◌≡◌, ◌++◌, ◌-◌, ◌≤◌, length, take, drop, replicate};
 
-// The cells from n on are zeroed.
+// The cells from n on are zeroed. By a loop: `fill` requires a clone that can't fail (`is_infallible`), which `T: Copy` doesn't promise.
 pub fn clear<T: Copy + From<u8>>(cells: &mut [T], n: usize)
     ensures { (zero : T) × T.from_gives 0 zero × (cells.new ≡ take n cells.old ++ replicate (length cells.old - n) zero) }
 {
