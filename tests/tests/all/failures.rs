@@ -333,6 +333,8 @@ fn other_places(folder: &Path, called: &Called) {
         ("a link", called_in(root, &link, &[])),
         ("a link's folder", called_in(&elsewhere, &here, &[])),
     ];
+    // `rt ci` refuses a repository with a link in it, and the next gate here would meet this one
+    remove_file(&link).expect("the link");
     let source = std::fs::read(&called.source).expect("the example");
     for (what, output) in ways {
         assert!(output.stdout == source, "{what}: {}", String::from_utf8_lossy(&output.stderr));
