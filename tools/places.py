@@ -140,7 +140,7 @@ def seventh_point():
 
 def eighth_point():
     """Answers to goals, by file."""
-    for path in sorted(ROOT.glob("crates/*/proofs/*/Answers.antt")):
+    for path in sorted(ROOT.glob("crates/*/proofs/**/Answers.antt")):
         count = len(re.findall(r"^pub ", path.read_text(), re.M))
         yield path.relative_to(ROOT / "crates"), count, "answers"
 

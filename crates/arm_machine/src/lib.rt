@@ -97,7 +97,7 @@ fn unlisted(core: Core, h: u16, k: u16) -> Stopped
     ensures { cores.stopped result ≡ steps.unlisted (cores.whole core) (classes.classify_of h k) }
 {
     match arm_classes::classify(h, k) {
-        Some(class) => core.fault(Fault::Unsupported(class)),
+        Some(class) => core.unsupported(class),
         None => core.fault(Fault::Undefined),
     }
 }
@@ -142,17 +142,25 @@ fn stopped_after(stopped: Stopped, count: u64) -> Ran
     }
 }
 
+// What a run hands back that is refused: the state as it was, and nothing done.
+fn refused(machine: Machine, refusal: Refusal) -> Ran
+    ensures { result ≡ runs.ran (exec_spec.fault machine (refusals.number_of refusal)) 0 }
+{
+    let stepped = Stepped::fault(machine, u32::from(refusal));
+    Ran {
+        machine: stepped.machine,
+        status: stepped.status,
+        number: stepped.number,
+        count: 0,
+    }
+}
+
 // At most `limit` instructions.
 pub fn run(machine: Machine, code: &[u8], memory: &mut [u32], limit: u64) -> Ran
     ensures { runs.run_after result memory.new ≡ runs.run_of limit code.now memory.old machine }
 {
     if let Err(refusal) = check_lengths(code, memory) {
-        return Ran {
-            machine,
-            status: u32::from(refusal),
-            number: 0,
-            count: 0,
-        };
+        return refused(machine, refusal);
     }
     let mut core = Core::from(machine);
     for k in 0..limit {

@@ -143,6 +143,19 @@ impl Stop {
     }
 }
 
+impl Stepped {
+    // A fault or a refusal by its number, whatever that is: the state stays as it was.
+    pub fn fault(machine: Machine, f: u32) -> Stepped
+        ensures { result ≡ spec.fault machine f }
+    {
+        Stepped {
+            machine,
+            status: f,
+            number: 0,
+        }
+    }
+}
+
 impl Machine {
     pub const DATA_BASE: u32 = 0x2000_0000;
 
@@ -404,6 +417,13 @@ impl Core {
             core: self,
             stop: Stop::Fault(fault),
         }
+    }
+
+    // A fault by an instruction that Armv6-M defines and the list doesn't have, with its class.
+    pub fn unsupported(self, class: u32) -> Stopped
+        ensures { core.stopped result ≡ spec.unsupported (core.whole self) class }
+    {
+        self.fault(Fault::Unsupported(class))
     }
 
     // Here and in `store` document 01 asks for `let else`, and no `?`.

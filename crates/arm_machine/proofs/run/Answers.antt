@@ -31,7 +31,7 @@ unrefused n c w m e = rw e
 pub returns-in-Err : goal.returns-in-Err
 returns-in-Err c =
     let x = c.args in
-    ap (λ (n : ℕ). run_after (ran (fault x.machine n) 0) x.memory.now) c.from.ensures
+    ap (λ (r : Ran). run_after r x.memory.now) c.refused.ensures
     ∙ refused x.limit _ _ _ _ (sym (ap answered c.in-Err.is) ∙ c.check_lengths.ensures) (refusal_not_0 _)
 
 pub returns-in-Svc : goal.returns-in-Svc
@@ -75,7 +75,7 @@ returns c =
     let x = c.args in
     let lp = c.loop-k in
     let k≡ : lp.k ≡ x.limit = omega arith in
-    ap (λ (m : Machine). run_after (ran (done m) x.limit) lp.memory) c.from-2.ensures
+    ap (λ (m : Machine). run_after (ran (done m) x.limit) lp.memory) c.from.ensures
     ∙ sym (lp.invariant.0 ∙ all_done x.limit lp.k x.code.now lp.memory (whole lp.core) c.loop-k-test.false ∙ ap (λ (k : ℕ). run_after (ran (done (whole lp.core)) k) lp.memory) k≡)
     ∙ unrefused x.limit _ _ _ (sym c.check_lengths.ensures ∙ ap answered c.in_default.is)
     ∙ ap (run_of x.limit _ _) c.from-core.ensures
