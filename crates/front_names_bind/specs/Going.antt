@@ -121,7 +121,7 @@ pub record Put (e : Item) (p n names made used : ℕ) (old new : Table) (t t' : 
   pub table : t' ≡ sets t (row_words * made) (item_row e)
 
 -- in the code's words, with the names' sizes before and after
-abbrev pub Puts : Item → ℕ → ℕ → Declared → Names → Names → List ℕ → List ℕ → List ℕ → List ℕ → Declared → Type 0
+abbrev pub Puts : Item → ℕ → ℕ → Declared → Names 256 → Names 256 → List ℕ → List ℕ → List ℕ → List ℕ → Declared → Type 0
 Puts e p n d old new sizes sizes' t t' d' = Put e p n old.count d.rows d.words (held old sizes) (held new sizes') t t' new.count d'.rows d'.words
 
 -- what `declare` answers, with the arrays that it leaves
@@ -155,7 +155,7 @@ module _ (source kinds places values : List ℕ) where
   Enters s i names names' t t' count' (Ok d) = Entered s i names names' t t' count' d.rows d.words
 
   -- whatever the sizes of the arrays so far, which the code doesn't keep
-  abbrev pub EntersAny : ℕ → Declared → Names → Names → List ℕ → List ℕ → Result Declared Refusal → Type 0
+  abbrev pub EntersAny : ℕ → Declared → Names 256 → Names 256 → List ℕ → List ℕ → Result Declared Refusal → Type 0
   EntersAny i d old new t t' r =
       (sizes : List ℕ) → 256 ≤ length sizes
       → (sizes' : List ℕ) × (256 ≤ length sizes') × Enters (scope_of source (held old sizes) old.count d.rows d.words) i (held old sizes) (held new sizes') t t' new.count r

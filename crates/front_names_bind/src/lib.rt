@@ -24,7 +24,12 @@ pub struct Declared {
 }
 
 // The constant at token j.
-fn constant_at(source: &[u8], tokens: TokenArrays, names: &Names, j: usize) -> Result<u32, Reason>
+fn constant_at(
+    source: &[u8],
+    tokens: TokenArrays,
+    names: &Names<256>,
+    j: usize,
+) -> Result<u32, Reason>
     ensures { (sizes : List ℕ) (made used : ℕ)
         → read_as result ≡ constant_read (text_at source.now tokens.entry.places.now tokens.entry.values.now)
         (scope_of source.now (held names.now sizes) names.now.count made used)
@@ -39,7 +44,7 @@ fn constant_at(source: &[u8], tokens: TokenArrays, names: &Names, j: usize) -> R
 // A name of n bytes at p and its item into the name table, and the item's row, if it has one, into the syntax table.
 // Six parameters here and in `declare`: the two tables are lent apart, since constants and names are looked up in the one alone, and the syntax table is its caller's.
 fn enter(
-    names: &mut Names,
+    names: &mut Names<256>,
     table: &mut [u32; 4096],
     e: Item,
     p: u32,
@@ -50,9 +55,10 @@ fn enter(
     ensures { (sizes : List ℕ) → names.old.count < length sizes
         → Puts e p n so_far names.old names.new sizes (set sizes names.old.count e.size) table.old table.new result }
 {
-    names.add(p, n, e.row, e.sort, e.word);
+    let sort = u32::from(e.sort);
+    names.add(p, n, e.row, sort, e.word);
     if e.sort != Sort::Val {
-        put(table, so_far.rows, e.sort as u32, e.word, e.size, 0);
+        put(table, so_far.rows, sort, e.word, e.size, 0);
     }
     Declared {
         rows: so_far.rows + e.rows,
@@ -64,7 +70,7 @@ fn enter(
 fn declare(
     source: &[u8],
     tokens: TokenArrays,
-    names: &mut Names,
+    names: &mut Names<256>,
     table: &mut [u32; 4096],
     i: usize,
     so_far: Declared,
@@ -89,7 +95,7 @@ fn declare(
 pub fn bind(
     source: &[u8],
     tokens: TokenArrays,
-    names: &mut Names,
+    names: &mut Names<256>,
     table: &mut [u32; 4096],
     start: usize,
 ) -> Result<Declared, Refusal>

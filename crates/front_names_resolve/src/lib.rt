@@ -141,7 +141,7 @@ fn resolve_row(table: &mut [u32; 4096], r: usize, m: Meaning, raw: Row)
 pub fn resolve(
     source: &[u8],
     tokens: TokenArrays,
-    names: &Names,
+    names: &Names<256>,
     table: &mut [u32; 4096],
     first: usize,
     end: usize,

@@ -1,7 +1,7 @@
 // The name table: what a name stands for, and a name more.
 #![tactic(auto)]
 
-ghost use Rattle.std.specs.Prelude.{◌≡◌, ℕ, suc, ◌+◌, ◌<◌, List, ◌∷◌, length, get_or, map, set};
+ghost use Rattle.std.specs.Prelude.{◌≡◌, ℕ, suc, ◌+◌, ◌<◌, List, ◌∷◌, length, get_or, set};
 ghost use Rattle.x_names.specs.Scope.{lookup, same};
 ghost use Rattle.front_names_table.specs.View.{meant, bare, view, seen_by};
 ghost use Rattle.front_names_table.specs.View as views;
@@ -9,6 +9,7 @@ ghost use Rattle.front_names_table.specs.Held.{held};
 ghost use Rattle.front_names_table.specs.Sorts.{number};
 
 use arm_word::entry_or;
+use x_program::row;
 
 // What a name stands for: a variable or an array by its row, a val by its word, or nothing that is declared.
 #[derive(Clone, Copy)]
@@ -28,15 +29,25 @@ pub enum Sort {
     Val,
 }
 
+// Its number: in a name table, and as the kind of the row that declares the name.
+impl From<Sort> for u32 {
+    ghost from_gives = { λ sort n. n ≡ number sort };
+
+    fn from(sort: Sort) -> u32 {
+        sort as u32
+    }
+}
+
 // The first `count` names, each with the place and length of its bytes in the source, its row, its sort and its word.
-// Moved, not copied: it has five KB.
+// A sort may be any number: all but a variable's and an array's are read as a val's.
+// Moved, not copied: of 256 names it has five KB.
 #[derive(Drop)]
-pub struct Names {
-    pub places: [u32; 256],
-    pub lengths: [u32; 256],
-    pub rows: [u32; 256],
-    pub sorts: [Sort; 256],
-    pub words: [u32; 256],
+pub struct Names<const N: usize> {
+    pub places: [u32; N],
+    pub lengths: [u32; N],
+    pub rows: [u32; N],
+    pub sorts: [u32; N],
+    pub words: [u32; N],
     pub count: usize,
 }
 
@@ -56,17 +67,17 @@ pub fn number(s: &[u32], i: usize) -> u32
     entry_or(s, i, 0)
 }
 
-impl Names {
+impl<const N: usize> Names<N> {
     // No names.
-    pub fn new() -> Names
+    pub fn new() -> Self
         ensures { result.count ≡ 0 }
     {
         Names {
-            places: [0; 256],
-            lengths: [0; 256],
-            rows: [0; 256],
-            sorts: [Sort::Undeclared; 256],
-            words: [0; 256],
+            places: [0; N],
+            lengths: [0; N],
+            rows: [0; N],
+            sorts: [0; N],
+            words: [0; N],
             count: 0,
         }
     }
@@ -87,11 +98,11 @@ impl Names {
     }
 
     fn meaning_at(&self, k: usize) -> Meaning
-        ensures { result ≡ seen_by (get_or (map number self.now.sorts) k 0) (get_or self.now.rows k 0) (get_or self.now.words k 0) }
+        ensures { result ≡ seen_by (get_or self.now.sorts k 0) (get_or self.now.rows k 0) (get_or self.now.words k 0) }
     {
-        match self.sorts.get(k) {
-            Some(Sort::Var) => Meaning::Variable(number(&self.rows, k)),
-            Some(Sort::Array) => Meaning::Array(number(&self.rows, k)),
+        match number(&self.sorts, k) {
+            row::VAR => Meaning::Variable(number(&self.rows, k)),
+            row::ARRAY => Meaning::Array(number(&self.rows, k)),
             _ => Meaning::Constant(number(&self.words, k)),
         }
     }
@@ -110,12 +121,12 @@ impl Names {
     }
 
     // A name more, of n bytes at p. Six parameters: an entry of each array, and no record that would be taken apart here at once.
-    pub fn add(&mut self, p: u32, n: u32, row: u32, sort: Sort, word: u32)
-        requires { self.old.count < 256 }
+    pub fn add(&mut self, p: u32, n: u32, row: u32, sort: u32, word: u32)
+        requires { self.old.count < N }
         ensures count { self.new.count ≡ self.old.count + 1 }
         ensures name { (source sizes : List ℕ) (size : ℕ) → self.old.count < length sizes
             → view source (held self.new (set sizes self.old.count size)) (suc self.old.count)
-            ≡ record { name = views.text source p n; meaning = views.by_sort (number sort) row word size }
+            ≡ record { name = views.text source p n; meaning = views.by_sort sort row word size }
             ∷ view source (held self.old sizes) self.old.count }
     {
         let k = self.count;

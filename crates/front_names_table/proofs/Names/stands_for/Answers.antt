@@ -6,15 +6,15 @@ use Rattle.front_names_table.specs.Held.{held}
 use Rattle.front_names_table.proofs.Names.stands_for.Goals as goal
 
 pub returns-then-named : goal.returns-then-named
-returns-then-named c =
+returns-then-named g c =
     λ sizes. let l = c.loop-k in let t = held c.args.self.now sizes in
     ap meant c.meaning_at.ensures ∙ seen_at t (l.k - 1)
     ∙ ap bare (sym (l.invariant sizes ∙ lookup_found _ _ t l.k c.loop-k-test.true (sym c.named.ensures ∙ c.if-named.true)))
 
 pub loop-k-preserved : goal.loop-k-preserved
-loop-k-preserved c =
+loop-k-preserved g c =
     λ sizes. let l = c.loop-k in
     l.invariant sizes ∙ lookup_next _ _ _ l.k c.loop-k-test.true (sym c.named.ensures ∙ c.if-named.false)
 
 pub returns : goal.returns
-returns c = λ sizes. ap bare (sym (c.loop-k.invariant sizes ∙ lookup_none _ _ _ c.loop-k.k c.loop-k-test.false))
+returns g c = λ sizes. ap bare (sym (c.loop-k.invariant sizes ∙ lookup_none _ _ _ c.loop-k.k c.loop-k-test.false))

@@ -9,6 +9,6 @@ use Rattle.front_names_table.specs.Held.{held}
 use Rattle.front_names_table.proofs.Names.stands_for.Given as goal
 
 abbrev pub invariant-loop-k : goal.invariant-loop-k
-invariant-loop-k l =
+invariant-loop-k g l =
     (sizes : List ℕ) → let t = held l.self sizes in
     lookup (view l.source t l.self.count) (text l.source l.p l.n) ≡ lookup (view l.source t l.k) (text l.source l.p l.n)
