@@ -8,7 +8,8 @@ ghost use Rattle.x_spelling.specs.Kinds as kinds;
 ghost use Rattle.x_program.specs.Layout.{row_words};
 ghost use Rattle.x_grammar.specs.Grammar.{is_monadic, is_diadic, is_associative};
 ghost use Rattle.x_grammar.specs.RawRows.{row, monadic_number};
-ghost use Rattle.front_read_expressions.specs.Reads.{Reads, expression_form, operand_form, chain_form, Fit, Within, Ready, Shallow, closed, deepened_extent, one_row_more, row_of_last, row_of_two};
+ghost use Rattle.front_read_expressions.specs.Reads.{Reads, expression_form, operand_form, chain_form, Fit, Within, Ready, Shallow};
+ghost use Rattle.front_read_expressions.specs.Reads.{closed, deepened, deepened_extent, counted_row, tabled, row_of_last, row_of_two};
 
 use arm_word::entry_or;
 use x_program::{operator, row};
@@ -62,11 +63,16 @@ pub fn put(table: &mut [u32; 4096], n: usize, kind: u32, a: u32, b: u32, c: u32)
     table[row::WORDS * n + 3] = c;
 }
 
-// The closing token of kind `want` after what was read.
-pub fn close(kinds: &[u8], part: Extent, want: u8) -> Result<Extent, Ungrammatical>
-    requires { Within kinds.now (Ok part) × (0 < want) }
-    ensures { result ≡ closed kinds.now want (Ok part) }
+// The closing token of kind `want` after what was read; a refusal stays as it is.
+pub fn close(
+    kinds: &[u8],
+    read: Result<Extent, Ungrammatical>,
+    want: u8,
+) -> Result<Extent, Ungrammatical>
+    requires { Within kinds.now read × (0 < want) }
+    ensures { result ≡ closed kinds.now want read }
 {
+    let part = read?;
     if kind_at(kinds, part.next) == want {
         Ok(Extent {
             next: part.next + 1,
@@ -77,28 +83,55 @@ pub fn close(kinds: &[u8], part: Extent, want: u8) -> Result<Extent, Ungrammatic
     }
 }
 
-// The row (kind, a, the last row, 0) after what was read.
-pub fn add_row(table: &mut [u32; 4096], part: Extent, kind: u32, a: u32) -> Extent
-    requires { Ready (Ok part) }
-    ensures { (result ≡ one_row_more part) × (table.new ≡ sets table.old (row_words * part.rows) (row_of_last kind a part.rows)) }
+// What was read, deepened as `Extent::deepen` does it; a refusal stays as it is.
+pub fn deepen(
+    read: Result<Extent, Ungrammatical>,
+    depth: usize,
+    deepest: usize,
+    more: usize,
+    deeper: usize,
+) -> Result<Extent, Ungrammatical>
+    requires { Shallow read × (depth ≤ 1024) × (deepest ≤ 1024) × (more ≤ 1) × (deeper ≤ 1) }
+    ensures { result ≡ deepened read depth deepest more deeper }
 {
-    put(table, part.rows, kind, a, (part.rows - 1) as u32, 0);
-    Extent {
-        rows: part.rows + 1,
-        ..part
-    }
+    Ok(read?.deepen(depth, deepest, more, deeper))
 }
 
-// The row (kind, a, b, the last row) after what was read.
-pub fn add_row_of_two(table: &mut [u32; 4096], part: Extent, kind: u32, a: u32, b: u32) -> Extent
-    requires { Ready (Ok part) }
-    ensures { (result ≡ one_row_more part) × (table.new ≡ sets table.old (row_words * part.rows) (row_of_two kind a b part.rows)) }
+// The row (kind, a, the last row, 0) after what was read; after a refusal none.
+pub fn add_row(
+    table: &mut [u32; 4096],
+    read: Result<Extent, Ungrammatical>,
+    kind: u32,
+    a: u32,
+) -> Result<Extent, Ungrammatical>
+    requires { Ready read }
+    ensures { (result ≡ counted_row read) × (table.new ≡ tabled table.old read (row_of_last kind a)) }
 {
-    put(table, part.rows, kind, a, b, (part.rows - 1) as u32);
-    Extent {
-        rows: part.rows + 1,
-        ..part
-    }
+    let before = read?;
+    put(table, before.rows, kind, a, (before.rows - 1) as u32, 0);
+    Ok(Extent {
+        rows: before.rows + 1,
+        ..before
+    })
+}
+
+// The row (kind, a, b, the last row) after what was read; after a refusal none.
+pub fn add_row_of_two(
+    table: &mut [u32; 4096],
+    read: Result<Extent, Ungrammatical>,
+    kind: u32,
+    a: u32,
+    b: u32,
+) -> Result<Extent, Ungrammatical>
+    requires { Ready read }
+    ensures { (result ≡ counted_row read) × (table.new ≡ tabled table.old read (row_of_two kind a b)) }
+{
+    let before = read?;
+    put(table, before.rows, kind, a, b, (before.rows - 1) as u32);
+    Ok(Extent {
+        rows: before.rows + 1,
+        ..before
+    })
 }
 
 pub fn is_monadic(k: u8) -> bool
@@ -147,8 +180,8 @@ pub fn expression(
     let k = kind_at(tokens.kinds, i);
     if is_monadic(k) {
         let under = operand(tokens, table, n, i + 1)?;
-        let whole = add_row(table, under, row::MONADIC, monadic_number(k));
-        return Ok(whole.deepen(0, 0, 0, 1));
+        let whole = add_row(table, Ok(under), row::MONADIC, monadic_number(k));
+        return deepen(whole, 0, 0, 0, 1);
     }
     let first = operand(tokens, table, n, i)?;
     let o = kind_at(tokens.kinds, first.next);
@@ -158,12 +191,12 @@ pub fn expression(
     let rest = chain(tokens, table, o, first.rows, first.next + 1)?;
     let whole = add_row_of_two(
         table,
-        rest,
+        Ok(rest),
         row::DIADIC,
         u32::from(o) - kind::OPERATOR_BASE,
         (first.rows - 1) as u32,
     );
-    Ok(whole.deepen(0, first.deepest, 0, 1))
+    deepen(whole, 0, first.deepest, 0, 1)
 }
 
 // The operands after an operator o, grouped to the right.
@@ -185,12 +218,12 @@ fn chain(
     let rest = chain(tokens, table, o, first.rows, first.next + 1)?;
     let joined = add_row_of_two(
         table,
-        rest,
+        Ok(rest),
         row::DIADIC,
         u32::from(o) - kind::OPERATOR_BASE,
         (first.rows - 1) as u32,
     );
-    Ok(joined.deepen(0, first.deepest, 0, 1))
+    deepen(joined, 0, first.deepest, 0, 1)
 }
 
 // A number, a variable, an element, or an expression in brackets.
@@ -218,17 +251,17 @@ fn operand(
     if k == kind::NAME {
         if kind_at(tokens.kinds, i + 1) == kind::OPEN_SUBSCRIPT {
             let e = expression(tokens, table, n, i + 2)?;
-            let subscript = close(tokens.kinds, e, kind::CLOSE_SUBSCRIPT)?;
+            let subscript = close(tokens.kinds, Ok(e), kind::CLOSE_SUBSCRIPT);
             let element = add_row(table, subscript, row::ELEMENT, i as u32);
-            return Ok(element.deepen(0, 0, 0, 1));
+            return deepen(element, 0, 0, 0, 1);
         }
         put(table, n, row::VARIABLE, i as u32, 0, 0);
         return Ok(one_token);
     }
     if k == kind::OPEN_BRACKET {
         let inner = expression(tokens, table, n, i + 1)?;
-        let bracketed = close(tokens.kinds, inner, kind::CLOSE_BRACKET)?;
-        return Ok(bracketed.deepen(0, 0, 0, 1));
+        let bracketed = close(tokens.kinds, Ok(inner), kind::CLOSE_BRACKET);
+        return deepen(bracketed, 0, 0, 0, 1);
     }
     Err(Ungrammatical { token: i })
 }

@@ -8,7 +8,7 @@ ghost use Rattle.front_read_processes.specs.Forms.{process_form, list_form, Comm
 ghost use Rattle.front_read_processes.specs.Lists.{Kept, joints};
 
 use front_read_expressions::{
-    Extent, Ungrammatical, add_row, add_row_of_two, close, expression, kind_at, put,
+    Extent, Ungrammatical, add_row, add_row_of_two, close, deepen, expression, kind_at, put,
 };
 use x_program::row;
 use x_spelling::kind;
@@ -25,17 +25,17 @@ fn element_assignment(
     ensures { Reads process_form tokens.entry.kinds.now tokens.entry.values.now i n table.old result table.new }
 {
     let e = expression(tokens, table, n, i + 2)?;
-    let subscript = close(tokens.kinds, e, kind::CLOSE_SUBSCRIPT)?;
+    let subscript = close(tokens.kinds, Ok(e), kind::CLOSE_SUBSCRIPT);
     let target = close(tokens.kinds, subscript, kind::BECOMES)?;
     let value = expression(tokens, table, target.rows, target.next)?;
     let whole = add_row_of_two(
         table,
-        value,
+        Ok(value),
         row::ASSIGN_ELEMENT,
         i as u32,
         (target.rows - 1) as u32,
     );
-    Ok(whole.deepen(0, target.deepest + 1, 1, 0))
+    deepen(whole, 0, target.deepest + 1, 1, 0)
 }
 
 // An assignment to the name at token i.
@@ -51,8 +51,8 @@ fn assignment(
     match kind_at(tokens.kinds, i + 1) {
         kind::BECOMES => {
             let value = expression(tokens, table, n, i + 2)?;
-            let whole = add_row(table, value, row::ASSIGN, i as u32);
-            Ok(whole.deepen(0, 0, 1, 0))
+            let whole = add_row(table, Ok(value), row::ASSIGN, i as u32);
+            deepen(whole, 0, 0, 1, 0)
         }
         kind::OPEN_SUBSCRIPT => element_assignment(tokens, table, n, i),
         _ => Err(Ungrammatical { token: i + 1 }),
@@ -237,18 +237,18 @@ fn conditional(
     ensures { (Reads process_form tokens.entry.kinds.now tokens.entry.values.now i n table.old result table.new) × (Kept pending.old pending.new top) }
 {
     let e = expression(tokens, table, n, i + 1)?;
-    let condition = close(tokens.kinds, e, kind::THEN)?;
+    let condition = close(tokens.kinds, Ok(e), kind::THEN)?;
     let p = process(tokens, table, pending, condition.rows, condition.next, top)?;
-    let then = close(tokens.kinds, p, kind::ELSE)?;
+    let then = close(tokens.kinds, Ok(p), kind::ELSE)?;
     let other = process(tokens, table, pending, then.rows, then.next, top)?;
     let whole = add_row_of_two(
         table,
-        other,
+        Ok(other),
         row::IF,
         (condition.rows - 1) as u32,
         (then.rows - 1) as u32,
     );
-    Ok(whole.deepen(then.depth, condition.deepest.max(then.deepest), 1, 0))
+    deepen(whole, then.depth, condition.deepest.max(then.deepest), 1, 0)
 }
 
 // `while e do p` at token i.
@@ -265,8 +265,8 @@ fn repetition(
     ensures { (Reads process_form tokens.entry.kinds.now tokens.entry.values.now i n table.old result table.new) × (Kept pending.old pending.new top) }
 {
     let e = expression(tokens, table, n, i + 1)?;
-    let condition = close(tokens.kinds, e, kind::DO)?;
+    let condition = close(tokens.kinds, Ok(e), kind::DO)?;
     let repeated = process(tokens, table, pending, condition.rows, condition.next, top)?;
-    let whole = add_row(table, repeated, row::WHILE, (condition.rows - 1) as u32);
-    Ok(whole.deepen(0, condition.deepest, 1, 0))
+    let whole = add_row(table, Ok(repeated), row::WHILE, (condition.rows - 1) as u32);
+    deepen(whole, 0, condition.deepest, 1, 0)
 }

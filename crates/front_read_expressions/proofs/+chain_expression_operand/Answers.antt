@@ -75,17 +75,11 @@ operand-returns-in_err-e t c =
     let e = sym c.kind_at-k.ensures ∙ c.if-k-eq-NAME.true in let g = sym c.kind_at.ensures ∙ c.if-kind_at-eq-OPEN_SUBSCRIPT.true in
     rw (passed _ _ c.from_residual.ensures.1) (operand_element _ _ c.args.i c.args.n c.args.table.now (Err _) c.expression.new.table e g c.in_err-e.ensures)
 
-pub operand-returns-in_err-subscript : goal.operand-returns-in_err-subscript
-operand-returns-in_err-subscript t c =
-    let e = sym c.kind_at-k.ensures ∙ c.if-k-eq-NAME.true in let g = sym c.kind_at.ensures ∙ c.if-kind_at-eq-OPEN_SUBSCRIPT.true in
-    let h = operand_element _ _ c.args.i c.args.n c.args.table.now (Ok _) _ e g c.in_ok-e.ensures in
-    rw (passed _ _ c.from_residual-in_err-subscript.ensures.1) (rw (← c.in_err-subscript.ensures) at h)
-
 pub operand-returns-then-kind_at-eq-OPEN_SUBSCRIPT : goal.operand-returns-then-kind_at-eq-OPEN_SUBSCRIPT
 operand-returns-then-kind_at-eq-OPEN_SUBSCRIPT t c =
     let e = sym c.kind_at-k.ensures ∙ c.if-k-eq-NAME.true in let g = sym c.kind_at.ensures ∙ c.if-kind_at-eq-OPEN_SUBSCRIPT.true in
-    let h = operand_element _ _ c.args.i c.args.n c.args.table.now (Ok _) _ e g c.in_ok-e.ensures in
-    rw (c.deepen.ensures, c.add_row-element.ensures.0, c.add_row-element.ensures.1) (rw (← c.in_ok-subscript.ensures) at h)
+    rw (c.deepen.ensures, c.add_row-element.ensures.0, c.add_row-element.ensures.1, c.close-subscript.ensures)
+    (operand_element _ _ c.args.i c.args.n c.args.table.now (Ok _) _ e g c.in_ok-e.ensures)
 
 pub operand-returns-then-k-eq-NAME : goal.operand-returns-then-k-eq-NAME
 operand-returns-then-k-eq-NAME t c =
@@ -97,15 +91,10 @@ operand-returns-in_err-inner t c =
     rw (passed _ _ c.from_residual-in_err-inner.ensures.1)
     (operand_brackets _ _ c.args.i c.args.n c.args.table.now (Err _) c.expression-then-k-eq-OPEN_BRACKET.new.table (sym c.kind_at-k.ensures ∙ c.if-k-eq-OPEN_BRACKET.true) c.in_err-inner.ensures)
 
-pub operand-returns-in_err-bracketed : goal.operand-returns-in_err-bracketed
-operand-returns-in_err-bracketed t c =
-    let h = operand_brackets _ _ c.args.i c.args.n c.args.table.now (Ok _) _ (sym c.kind_at-k.ensures ∙ c.if-k-eq-OPEN_BRACKET.true) c.in_ok-inner.ensures in
-    rw (passed _ _ c.from_residual-in_err-bracketed.ensures.1) (rw (← c.in_err-bracketed.ensures) at h)
-
 pub operand-returns-then-k-eq-OPEN_BRACKET : goal.operand-returns-then-k-eq-OPEN_BRACKET
 operand-returns-then-k-eq-OPEN_BRACKET t c =
-    let h = operand_brackets _ _ c.args.i c.args.n c.args.table.now (Ok _) _ (sym c.kind_at-k.ensures ∙ c.if-k-eq-OPEN_BRACKET.true) c.in_ok-inner.ensures in
-    rw c.deepen-then-k-eq-OPEN_BRACKET.ensures (rw (← c.in_ok-bracketed.ensures) at h)
+    rw (c.deepen-then-k-eq-OPEN_BRACKET.ensures, c.close-bracketed.ensures)
+    (operand_brackets _ _ c.args.i c.args.n c.args.table.now (Ok _) _ (sym c.kind_at-k.ensures ∙ c.if-k-eq-OPEN_BRACKET.true) c.in_ok-inner.ensures)
 
 pub operand-returns : goal.operand-returns
 operand-returns t c =
