@@ -47,14 +47,15 @@ pub fn letter(b: u8) -> bool
     b.is_ascii_alphabetic()
 }
 
+// Reckoned in bytes: the compiler then knows that a letter's value is 10 or more, and goes through a decimal number by one test a digit.
 #[tactic(auto, unfolding(crate::specs::Characters::digit_value))]
 pub fn digit_value(b: u8) -> u32
     ensures { result ≡ characters.digit_value b }
 {
     match b {
         b'0'..=b'9' => (b - b'0') as u32,
-        b'a'..=b'f' => (b - b'a') as u32 + 10,
-        b'A'..=b'F' => (b - b'A') as u32 + 10,
+        b'a'..=b'f' => (b - b'a' + 10) as u32,
+        b'A'..=b'F' => (b - b'A' + 10) as u32,
         _ => 16,
     }
 }
